@@ -1,0 +1,5 @@
+pub mod Answered
+pub mod ByRows
+pub mod Marks
+pub mod Passed
+pub mod Steps

@@ -1,0 +1,9 @@
+pub mod Answers
+pub mod Checks
+pub mod Codes
+pub mod Held
+pub mod Layout
+pub mod Ledger
+pub mod Orderly
+pub mod Rows
+pub mod View

@@ -1,0 +1,3 @@
+pub mod Bill
+pub mod Span
+pub mod Promise
