@@ -47,7 +47,7 @@ within n es ws (Bill payer amount) f = tt
 within n es ws (Payment from to amount) f = tt
 within n es ws (TakeBack j) f = plain-there es j (and-parts (is-plain (nth es j)) (not (taken es j)) f .0)
 
-returns-earlier : (n : ℕ) (es : List Entry) (ws : List ℕ) (l : Line) (k : ℕ) → follows n es ws l ≡ true → length es ≤ k → takes l k ≡ false
+pub returns-earlier : (n : ℕ) (es : List Entry) (ws : List ℕ) (l : Line) (k : ℕ) → follows n es ws l ≡ true → length es ≤ k → takes l k ≡ false
 returns-earlier n es ws (Bill payer amount) k h le = refl
 returns-earlier n es ws (Payment from to amount) k h le = refl
 returns-earlier n es ws (TakeBack j) k h le = let there = within n es ws (TakeBack j) h in ne-eqb j k (λ e. omega arith)
@@ -126,3 +126,17 @@ orderly-push n before (x ∷ es) e h f =
     let on = orderly-push n (before ++ (x ∷ [])) es e (parts .1) (rw append-assoc f) in
     let here = parts .0 in
     grind arith
+
+-- which lines stand after one more
+pub stands-push : (n : ℕ) (es : List Entry) (e : Entry) → orderly n es ≡ true → follows n es (e .weights) (e .line) ≡ true →
+    (k : ℕ) → stands-at (es ++ (e ∷ [])) k ≡ (eqb k (length es) || (stands-at es k && not (takes (e .line) k)))
+stands-push n es e ordered f k =
+    let long = length-push es e in
+    let push = taken-push es e k in
+    ⊎-elim
+    (λ (is : k ≡ length es).
+        let yet = not-taken-yet n [] es k ordered (omega arith) in
+        let late = returns-earlier n es (e .weights) (e .line) k f (omega arith) in
+        grind (arith, tells))
+    (λ isnt. grind (arith, tells))
+    (cases-eq k (length es))

@@ -1,9 +1,9 @@
 -- What a book answers: when it is made, and to each line.
-use mathlib.Core.Bool.{Bool, true, _&&_, cond}
+use mathlib.Core.Bool.{Bool, true, false, not, _&&_, _||_, cond}
 use mathlib.Core.List.{List, []}
 use mathlib.Core.Path.{_≡_}
 use Prim.Native.Nat.{ℕ}
-use lib.Dec.{leb, ltb}
+use lib.Dec.{eqb, leb, ltb}
 use lib.ListN.{length}
 use Rattle.std.specs.Options.{mapped}
 use Rattle.std.specs.declared.option.Option.{Option}
@@ -11,7 +11,7 @@ use Rattle.std.specs.declared.option.Option.the-variants.{Some, None}
 use Rattle.std.specs.declared.result.Result.{Result}
 use Rattle.std.specs.declared.result.Result.the-variants.{Ok, Err}
 use Rattle.book.specs.Codes.{code}
-use Rattle.book.specs.Held.{Held}
+use Rattle.book.specs.Held.{Held, stands-at, takes}
 use Rattle.book.specs.Layout.{kind-of, entry-of}
 use Rattle.book.specs.Rows.{rows, first-row}
 use Rattle.book.specs.View.{held, with-entry}
@@ -38,11 +38,18 @@ abbrev pub with-said : Held → Option Entry → Held
 with-said h None = h
 with-said h (Some e) = with-entry h e
 
--- a line that no row applies to is taken: its number is that of the lines before it, and the book has it as its last
+-- does this line, if it says anything, take back line k
+abbrev pub takes-said : Option Entry → ℕ → Bool
+takes-said None k = false
+takes-said (Some e) k = takes (e .line) k
+
+-- a line that no row applies to is taken: its number is that of the lines before it, the book has it as its last,
+-- and those stand that stood before and that it does not take back, and it itself
 pub record Taken (before after : Held) (bs : List ℕ) (number : ℕ) : Type 0 where
   pub numbered : number ≡ length (before .entries)
   pub no-row : first-row rows before bs ≡ None
   pub grown : after ≡ with-said before (entry-said (before .people) bs)
+  pub standing : (k : ℕ) → stands-at (after .entries) k ≡ (eqb k number || (stands-at (before .entries) k && not (takes-said (entry-said (before .people) bs) k)))
 
 -- a line that a row applies to is refused by the first such row, and the book is what it was
 pub record Refused (before after : Book) (bs : List ℕ) (e : Refusal) : Type 0 where

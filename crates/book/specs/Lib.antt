@@ -5,5 +5,7 @@ pub mod Held
 pub mod Layout
 pub mod Ledger
 pub mod Orderly
+pub mod Promise
+pub mod Reading
 pub mod Rows
 pub mod View

@@ -35,7 +35,7 @@ pub(crate) fn decode(people: u8, bytes: &[u8]) -> Result<Entry, Refusal>
 }
 
 // The kind that the first byte names; an empty line has none.
-fn kind_at_front(bytes: &[u8]) -> Option<Kind>
+pub(crate) fn kind_at_front(bytes: &[u8]) -> Option<Kind>
     ensures { λ r. ⌜ r ≡ kind-of (now (bytes .entry)) ⌝ }
 {
     match bytes.first().copied().unwrap_or(0) {

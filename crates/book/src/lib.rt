@@ -4,3 +4,4 @@ pub mod kind;
 pub mod ledger;
 pub mod line;
 pub mod refusal;
+pub mod rules;

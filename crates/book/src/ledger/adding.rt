@@ -5,11 +5,15 @@ ghost use mathlib.Core.Path.{_≡_};
 ghost use Prim.Native.Nat.{_<_};
 ghost use Rattle.book.specs.Answers.{Begins, Added};
 ghost use Rattle.book.specs.Checks.{unless};
+ghost use Rattle.book.specs.Codes.{code};
 ghost use Rattle.book.specs.Held.{Within, may-return, returnable, struck};
 ghost use Rattle.book.specs.Orderly.{follows};
+ghost use Rattle.book.specs.Rows.{first-row, rows-of-cut};
 ghost use Rattle.book.specs.View.{held, with-entry};
 ghost use Rattle.std.specs.Of.Vec.{vec-cap, vec-items, vec-len};
+ghost use Rattle.std.specs.declared.option.Option.the-variants.{Some};
 use crate::decode::decode;
+use crate::decode::kind_at_front;
 use crate::ledger::Book;
 use crate::line::Entry;
 use crate::line::Line;
@@ -58,6 +62,19 @@ impl Book {
         }
         self.keep(entry);
         Ok(number)
+    }
+
+    // The refusal of a line that the input cuts short: whatever its bytes are, they are fewer than the line says.
+    pub fn refuse_cut(&self, bytes: &[u8]) -> Refusal
+        ensures { λ r. ⌜ first-row rows-of-cut (held (now (self .entry))) (now (bytes .entry)) ≡ Some (code r) ⌝ }
+    {
+        if self.entries.len() >= self.room {
+            return Refusal::NoRoom;
+        }
+        let Some(_) = kind_at_front(bytes) else {
+            return Refusal::UnknownKind;
+        };
+        Refusal::WrongLength { found: bytes.len() }
     }
 
     // The entry, unless it takes back a line that cannot be taken back.

@@ -2,6 +2,8 @@
 ghost use mathlib.Core.Path.{_≡_};
 ghost use lib.ListN.{length};
 ghost use Rattle.book.specs.Held.{stands-at};
+ghost use Rattle.book.specs.Ledger.{Sound};
+ghost use Rattle.book.specs.Reading.{lines};
 ghost use Rattle.book.specs.View.{held};
 ghost use Rattle.std.specs.Finite.{nth};
 use crate::ledger::Book;
@@ -35,4 +37,9 @@ impl Book {
     {
         number < self.stands.len() && self.stands[number]
     }
+
+    // The lines that a book holds are in order: whoever pays or is paid is there, and each bill has a weight above 0.
+    pub fn in_order(&self)
+        ensures { λ _. ⌜ Sound (held (now (self .entry)) .people) (lines (held (now (self .entry)) .people) (held (now (self .entry)) .entries)) ⌝ }
+    {}
 }

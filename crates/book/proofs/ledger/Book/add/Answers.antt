@@ -1,15 +1,17 @@
 use mathlib.Core.Path.{_≡_, refl, sym, ap, subst, _∙_}
 use mathlib.Core.Bool.{Bool, true, false, not}
 use native.Mathlib.Omega.{arith}
+use lib.ListN.{length}
 use Rattle.std.proofs.shelf.Results.{err-from-errBy}
 use Rattle.std.specs.Of.Vec.{vec-items}
 use Rattle.std.specs.declared.option.Option.the-variants.{Some, None}
 use Rattle.book.proofs.Answered as told
+use Rattle.book.proofs.Marks.{stands-push}
 use Rattle.book.proofs.Passed.{decoded-passes}
 use Rattle.book.proofs.ledger.Book.add.Needs as need
 use Rattle.book.specs.Answers.{with-said}
 use Rattle.book.specs.Checks.{unless}
-use Rattle.book.specs.Held.{may-return}
+use Rattle.book.specs.Held.{may-return, stands-at}
 use Rattle.book.specs.Orderly.{follows}
 use Rattle.book.specs.View.{held}
 use Rattle.book.specs.declared.line.Entry.{Entry}
@@ -61,10 +63,18 @@ pub returns : need.returns
 returns c =
     let b = c .args .self .now in
     let e = c .in-Continue-entry .entry in
+    let es = vec-items (b .entries) in
     let is = sym (c .in-Continue-entry .ensures tt) in
-    let yes = passed (may-return (vec-items (b .entries)) (e .line)) e (c .in-Some .entry) (c .in-Some .ensures tt) in
+    let yes = passed (may-return es (e .line)) e (c .in-Some .entry) (c .in-Some .ensures tt) in
+    let good = decoded-passes (b .people) (c .args .bytes .now) (b .crew .1) e is in
+    let grown = c .keep .ensures ∙ ap (with-said (held b)) (sym (good .said ∙ ap Some (yes .1))) in
+    let number : c .len-number .result ≡ length es = omega (arith, b .entries .ok .0) in
     record {
-      numbered = omega (arith, b .entries .ok .0);
+      numbered = number;
       no-row = told.no-row b (c .args .bytes .now) (omega arith) e is (yes .0) (omega arith);
-      grown = c .keep .ensures ∙ ap (with-said (held b)) (sym (decoded-passes (b .people) (c .args .bytes .now) (b .crew .1) e is .said ∙ ap Some (yes .1)));
+      grown = grown;
+      standing = λ k.
+          ap (λ h. stands-at (h .entries) k) (grown ∙ ap (with-said (held b)) (good .said))
+          ∙ stands-push (b .people) es e (b .ordered) (good .fits es (yes .0)) k
+          ∙ rw (number, good .said) refl;
     }
