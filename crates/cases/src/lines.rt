@@ -160,7 +160,10 @@ fn cut_short(rt: LibcRuntime) -> Result<(), Fail> {
     check_eq(answered(Err(book.refuse_cut(&[]))), (2, 0))?;
     check_eq(answered(Err(book.refuse_cut(&[4, 1]))), (2, 0))?;
     // these bytes would be a whole line
-    check_eq(answered(Err(book.refuse_cut(&[2, 0, 1, 1, 0, 0, 0]))), (3, 7))
+    check_eq(
+        answered(Err(book.refuse_cut(&[2, 0, 1, 1, 0, 0, 0]))),
+        (3, 7),
+    )
 }
 
 #[test]
