@@ -1,30 +1,16 @@
 // Inputs and what the rules say of them.
 use crate::report;
-use std::alloc::Global;
 use std::test::*;
 
-fn says(heap: Global, input: &[u8], expected: &str) -> Result<(), Fail> {
-    let text = report(heap, input)?;
-    check_eq(text.as_str(), expected)
-}
-
-// A crew has 1 to 16 people; nothing is said after a refusal, and nothing where there are no lines.
-#[test]
-fn numbers_of_people(rt: LibcRuntime) -> Result<(), Fail> {
-    let heap = rt.alloc();
-    says(heap, &[], "refused 1 at 0\n")?;
-    says(heap, &[0], "refused 1 at 0\n")?;
-    says(heap, &[17, 3, 3, 0, 0], "refused 1 at 0\n")?;
-    says(heap, &[1], "")?;
-    says(heap, &[16], "")
-}
-
-// Three people: person 0 pays a bill of 100 with equal weights, and person 1 pays 10 to person 0.
-#[test]
-fn lines_taken(rt: LibcRuntime) -> Result<(), Fail> {
-    let heap = rt.alloc();
-    says(
-        heap,
+static CASES: [(&[u8], &str); 20] = [
+    // a crew has 1 to 16 people; nothing is said after a refusal, and nothing where there are no lines
+    (&[], "refused 1 at 0\n"),
+    (&[0], "refused 1 at 0\n"),
+    (&[17, 3, 3, 0, 0], "refused 1 at 0\n"),
+    (&[1], ""),
+    (&[16], ""),
+    // person 0 pays a bill of 100 with equal weights, and person 1 pays 10 to person 0
+    (
         &[
             3,
             12,
@@ -50,47 +36,42 @@ fn lines_taken(rt: LibcRuntime) -> Result<(), Fail> {
             0,
         ],
         "line 0\nline 1\n",
-    )?;
+    ),
     // a refused line gets no number, and a line is taken back once
-    says(
-        heap,
+    (
         &[3, 0, 7, 2, 1, 0, 10, 0, 0, 0, 3, 3, 0, 0, 3, 3, 0, 0],
         "line refused 2 at 0\nline 0\nline 1\nline refused 9 at 1\n",
-    )
-}
-
-#[test]
-fn lines_refused(rt: LibcRuntime) -> Result<(), Fail> {
-    let heap = rt.alloc();
-    says(heap, &[3, 0], "line refused 2 at 0\n")?;
-    says(heap, &[3, 1, 4], "line refused 2 at 0\n")?;
-    says(heap, &[3, 2, 3, 0], "line refused 3 at 2\n")?;
-    says(heap, &[3, 7, 2, 1, 3, 10, 0, 0, 0], "line refused 4 at 2\n")?;
-    says(heap, &[3, 7, 2, 1, 0, 0, 0, 0, 0], "line refused 5 at 3\n")?;
-    // a weight of 1,001
-    says(
-        heap,
+    ),
+    (&[3, 0], "line refused 2 at 0\n"),
+    (&[3, 1, 4], "line refused 2 at 0\n"),
+    (&[3, 2, 3, 0], "line refused 3 at 2\n"),
+    (&[3, 7, 2, 1, 3, 10, 0, 0, 0], "line refused 4 at 2\n"),
+    (&[3, 7, 2, 1, 0, 0, 0, 0, 0], "line refused 5 at 3\n"),
+    // a weight of 1,001, and no weight
+    (
         &[3, 12, 1, 0, 100, 0, 0, 0, 1, 0, 233, 3, 1, 0],
         "line refused 6 at 8\n",
-    )?;
-    says(
-        heap,
+    ),
+    (
         &[3, 12, 1, 0, 100, 0, 0, 0, 0, 0, 0, 0, 0, 0],
         "line refused 7 at 6\n",
-    )?;
-    says(heap, &[3, 7, 2, 1, 1, 10, 0, 0, 0], "line refused 8 at 2\n")?;
-    says(heap, &[3, 3, 3, 0, 0], "line refused 9 at 1\n")
-}
+    ),
+    (&[3, 7, 2, 1, 1, 10, 0, 0, 0], "line refused 8 at 2\n"),
+    (&[3, 3, 3, 0, 0], "line refused 9 at 1\n"),
+    // lines that are cut, the first of them a payment that is whole by itself
+    (&[3, 8, 2, 1, 0, 10, 0, 0, 0], "line refused 3 at 7\n"),
+    (&[3, 7], "line refused 2 at 0\n"),
+    (&[3, 255, 9, 9], "line refused 2 at 0\n"),
+    (&[3, 3, 3, 0], "line refused 3 at 2\n"),
+];
 
-// Lines of which the input has fewer bytes than their first byte says.
 #[test]
-fn lines_cut(rt: LibcRuntime) -> Result<(), Fail> {
-    let heap = rt.alloc();
-    // a payment that is whole by itself
-    says(heap, &[3, 8, 2, 1, 0, 10, 0, 0, 0], "line refused 3 at 7\n")?;
-    says(heap, &[3, 7], "line refused 2 at 0\n")?;
-    says(heap, &[3, 255, 9, 9], "line refused 2 at 0\n")?;
-    says(heap, &[3, 3, 3, 0], "line refused 3 at 2\n")
+fn said_of_each_input(rt: LibcRuntime) -> Result<(), Fail> {
+    for (input, expected) in &CASES {
+        let text = report(rt.alloc(), input)?;
+        check_eq(text.as_str(), *expected)?;
+    }
+    Ok(())
 }
 
 // 512 payments are taken, one more is refused, and so is a line that is cut.
