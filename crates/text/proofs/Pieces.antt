@@ -1,10 +1,10 @@
 -- Laws of the cutting: a larger bound changes nothing, and one line after another.
 use mathlib.Core.List.{List, [], _∷_}
 use mathlib.Core.Path.{_≡_, refl, ap}
-use Prim.Native.Nat.{ℕ, zero, suc, _≤_, min}
+use Prim.Native.Nat.{ℕ, zero, suc, _≤_}
 use native.Mathlib.Omega.{arith}
 use lib.ListN.{length, drop, length-drop}
-use Rattle.text.specs.Pieces.{Piece, piece, pieces, pieces-within}
+use Rattle.text.specs.Pieces.{piece, pieces, pieces-within}
 
 -- two bounds that suffice
 same-within : (k m : ℕ) (bs : List ℕ) → length bs ≤ k → length bs ≤ m → pieces-within k bs ≡ pieces-within m bs
@@ -22,6 +22,7 @@ pub within-enough : (k : ℕ) (bs : List ℕ) → length bs ≤ k → pieces-wit
 unfolding pieces
 within-enough k bs h = same-within k (length bs) bs h (omega arith)
 
+-- nothing is left, and one line after another
 pub pieces-none : pieces [] ≡ []
 unfolding pieces
 pieces-none = refl

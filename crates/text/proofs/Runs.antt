@@ -1,7 +1,7 @@
 -- Laws of a run: one line after another, and the end.
 use mathlib.Core.List.{List, [], _∷_, _++_, append-assoc}
 use mathlib.Core.Logic.{inl, inr}
-use mathlib.Core.Path.{_≡_, refl, sym, ap, _∙_}
+use mathlib.Core.Path.{_≡_, refl}
 use Prim.Native.Nat.{ℕ, _-_, min}
 use native.Mathlib.Omega.{arith}
 use lib.Chars.{codes}
@@ -11,10 +11,10 @@ use Rattle.std.proofs.shelf.Lists.{append-nil, drop-all, take-rest}
 use Rattle.std.proofs.shelf.Tests.{cases-lt}
 use Rattle.text.proofs.Pieces.{pieces-more, pieces-none}
 use Rattle.text.specs.Answers.{Reply, answer-said}
-use Rattle.text.specs.Pieces.{Piece, piece, pieces}
+use Rattle.text.specs.Pieces.{piece, pieces}
 use Rattle.text.specs.Run.{after, answers, book-after, replies, reply, said}
 
--- the input from byte k on, which is the end where a line is longer than what is left
+-- what is left after a line of n bytes: nothing where the line is cut
 pub past-line : (n k : ℕ) (bs : List ℕ) → k ≡ min n (length bs) → take (length bs - k) (drop k bs) ≡ drop n bs
 past-line n k bs e =
     elim (cases-lt n (length bs)) [
@@ -33,6 +33,7 @@ module _ (h : Held) (n : ℕ) (left rest : List ℕ) (is : rest ≡ n ∷ left) 
   unfolding book-after
   book-more = rw (is, pieces-more) refl
 
+-- nothing is left
 pub text-end : (h : Held) (text : List ℕ) → text ++ answers h (pieces []) ≡ text
 unfolding replies said
 text-end h text = rw pieces-none (append-nil text)

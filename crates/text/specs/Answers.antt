@@ -13,10 +13,12 @@ pub data Reply : Type 0 where
   taken : ℕ → Reply
   refused : ℕ × ℕ → Reply
 
+-- an answer by its numbers
 abbrev pub reply-of : Answer → Reply
 reply-of (Taken number) = taken number
 reply-of (Refused refusal) = refused (code refusal)
 
+-- in words
 abbrev pub answer-said : Reply → List ℕ
 answer-said (taken number) = codes "line " ++ decimal number
 answer-said (refused code) = codes "line " ++ refused-at code

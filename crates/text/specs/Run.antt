@@ -17,40 +17,45 @@ abbrev pub row-of : Held → Piece → Option (ℕ × ℕ)
 row-of h (whole bs) = first-row rows h bs
 row-of h (cut bs) = first-row rows-of-cut h bs
 
--- a line that no row applies to is answered with its number
+-- a line that no row applies to is answered with that number
 abbrev pub by-row : ℕ → Option (ℕ × ℕ) → Reply
 by-row number None = taken number
 by-row number (Some code) = refused code
 
+-- a line's number is that of the lines in the book
 abbrev pub reply : Held → Piece → Reply
 reply h p = by-row (length (h .entries)) (row-of h p)
 
--- and the book then has it as its last; any other leaves the book as it was
+-- a line that no row applies to is then the book's last; any other leaves the book as it was
 abbrev pub with-line : Held → List ℕ → Option (ℕ × ℕ) → Held
 with-line h bs None = with-said h (entry-said (h .people) bs)
 with-line h bs (Some code) = h
 
+-- the book after a line; one that is cut is never taken
 abbrev pub after : Held → Piece → Held
 after h (whole bs) = with-line h bs (first-row rows h bs)
 after h (cut bs) = h
 
+-- the answers to lines, each by the book after those before it
 unfoldable pub replies : Held → List Piece → List Reply
 replies h [] = []
 replies h (p ∷ ps) = reply h p ∷ replies (after h p) ps
 
+-- the book after all of them
 unfoldable pub book-after : Held → List Piece → Held
 book-after h [] = h
 book-after h (p ∷ ps) = book-after (after h p) ps
 
--- each answer is a line of text
+-- each answer is a line of text and ends with a newline
 unfoldable pub said : List Reply → List ℕ
 said [] = []
 said (r ∷ rs) = (answer-said r ++ codes "\n") ++ said rs
 
+-- the text of the answers to lines
 abbrev pub answers : Held → List Piece → List ℕ
 answers h ps = said (replies h ps)
 
--- from one book to another, and from one text to another
+-- what reading lines makes of a book and a text: the book after them, and the text followed by their answers
 pub record Read (book : Held) (lines text : List ℕ) (book′ : Held) (text′ : List ℕ) : Type 0 where
   pub kept : book′ ≡ book-after book (pieces lines)
   pub written : text′ ≡ text ++ answers book (pieces lines)

@@ -1,5 +1,4 @@
-use mathlib.Core.Path.{_≡_, sym, ap, _∙_}
-use mathlib.Core.List.{[]}
+use mathlib.Core.Path.{sym, _∙_}
 use Rattle.book.specs.View.{held}
 use Rattle.std.proofs.shelf.Lists.{nil-from-length}
 use Rattle.std.specs.Of.String.{string-bytes}
@@ -15,10 +14,12 @@ loop-length-again c =
     let is = c .in-Some .ensures tt .cases .0 in
     let past = past-line n (c .min .result) left (c .min .ensures) in
     let written = c .in-Continue-write-line .ensures tt in
-    let text = text-more h n left (c .loop-length .rest .now) is (reply-of (c .answer-line-answer .result)) (string-bytes (c .loop-length .text)) (c .answer-line-answer .ensures .answered) in
-    let book = book-more h n left (c .loop-length .rest .now) is in (
-      rw (written, past, c .answer-line-answer .ensures .grown) (text ∙ c .loop-length .inv .0),
-      rw (past, c .answer-line-answer .ensures .grown) (book ∙ c .loop-length .inv .1),
+    let answer = c .answer-line-answer in
+    let rest = c .loop-length .rest .now in
+    let text = text-more h n left rest is (reply-of (answer .result)) (string-bytes (c .loop-length .text)) (answer .ensures .answered) in
+    let book = book-more h n left rest is in (
+      rw (written, past, answer .ensures .grown) (text ∙ c .loop-length .inv .0),
+      rw (past, answer .ensures .grown) (book ∙ c .loop-length .inv .1),
     )
 
 pub returns : need.returns
