@@ -4,7 +4,6 @@ use mathlib.Core.Logic.{inl, inr}
 use mathlib.Core.Path.{_≡_, refl}
 use Prim.Native.Nat.{ℕ, _-_, min}
 use native.Mathlib.Omega.{arith}
-use lib.Chars.{codes}
 use lib.ListN.{length, take, drop}
 use Rattle.book.specs.Held.{Held}
 use Rattle.std.proofs.shelf.Lists.{append-nil, drop-all, take-rest}
@@ -13,6 +12,7 @@ use Rattle.text.proofs.Pieces.{pieces-more, pieces-none}
 use Rattle.text.specs.Answers.{Reply, answer-said}
 use Rattle.text.specs.Pieces.{piece, pieces}
 use Rattle.text.specs.Run.{after, answers, book-after, replies, reply, said}
+use Rattle.text.specs.Texts.{as-line}
 
 -- what is left after a line of n bytes: nothing where the line is cut
 pub past-line : (n k : ℕ) (bs : List ℕ) → k ≡ min n (length bs) → take (length bs - k) (drop k bs) ≡ drop n bs
@@ -25,7 +25,7 @@ past-line n k bs e =
 -- reading one line: its number of bytes n, what is left after that byte, and its answer
 module _ (h : Held) (n : ℕ) (left rest : List ℕ) (is : rest ≡ n ∷ left) where
   pub text-more : (r : Reply) (text : List ℕ) → r ≡ reply h (piece n left) →
-      (text ++ (answer-said r ++ codes "\n")) ++ answers (after h (piece n left)) (pieces (drop n left)) ≡ text ++ answers h (pieces rest)
+      (text ++ as-line (answer-said r)) ++ answers (after h (piece n left)) (pieces (drop n left)) ≡ text ++ answers h (pieces rest)
   unfolding replies said
   text-more r text e = rw (is, pieces-more, e) (append-assoc text _ _)
 

@@ -2,3 +2,4 @@ pub mod Answers
 pub mod Pieces
 pub mod Report
 pub mod Run
+pub mod Texts

@@ -2,7 +2,6 @@
 use mathlib.Core.List.{List, [], _∷_, _++_}
 use mathlib.Core.Path.{_≡_}
 use Prim.Native.Nat.{ℕ}
-use lib.Chars.{codes}
 use lib.ListN.{length}
 use Rattle.book.specs.Answers.{entry-said, with-said}
 use Rattle.book.specs.Held.{Held}
@@ -11,6 +10,7 @@ use Rattle.std.specs.declared.option.Option.{Option}
 use Rattle.std.specs.declared.option.Option.the-variants.{Some, None}
 use Rattle.text.specs.Answers.{Reply, answer-said, refused, taken}
 use Rattle.text.specs.Pieces.{Piece, cut, pieces, whole}
+use Rattle.text.specs.Texts.{as-line}
 
 -- the number and place of the first row that applies to a line
 abbrev pub row-of : Held → Piece → Option (ℕ × ℕ)
@@ -46,16 +46,16 @@ unfoldable pub book-after : Held → List Piece → Held
 book-after h [] = h
 book-after h (p ∷ ps) = book-after (after h p) ps
 
--- each answer is a line of text and ends with a newline
+-- each answer is a line of text
 unfoldable pub said : List Reply → List ℕ
 said [] = []
-said (r ∷ rs) = (answer-said r ++ codes "\n") ++ said rs
+said (r ∷ rs) = as-line (answer-said r) ++ said rs
 
 -- the text of the answers to lines
 abbrev pub answers : Held → List Piece → List ℕ
 answers h ps = said (replies h ps)
 
 -- what reading lines makes of a book and a text: the book after them, and the text followed by their answers
-pub record Read (book : Held) (lines text : List ℕ) (book′ : Held) (text′ : List ℕ) : Type 0 where
+pub record Read (lines : List ℕ) (book book′ : Held) (text text′ : List ℕ) : Type 0 where
   pub kept : book′ ≡ book-after book (pieces lines)
   pub written : text′ ≡ text ++ answers book (pieces lines)

@@ -1,13 +1,13 @@
 // What the program prints, as one function from the input's bytes to a text.
 ghost use mathlib.Core.List.{_++_};
 ghost use mathlib.Core.Path.{_≡_};
-ghost use lib.Chars.{codes};
 ghost use Rattle.book.specs.Codes.{code};
 ghost use Rattle.book.specs.Words.{refused-at};
 ghost use Rattle.book.specs.declared.refusal.Refusal.the-variants.{CrewSize};
 ghost use Rattle.std.specs.Of.String.{string-bytes};
 ghost use Rattle.std.specs.Vec.{made};
 ghost use Rattle.text.specs.Report.{lines-in, people-in, reported};
+ghost use Rattle.text.specs.Texts.{as-line};
 use book::ledger::Book;
 use book::refusal::Refusal;
 use book::refusal::RefusalDisplay;
@@ -50,7 +50,8 @@ fn people_and_lines(input: &[u8]) -> (u8, &[u8])
 
 // Writes the refusal of the number of people; where a book is refused for anything else, memory is wanting.
 fn refuse_book(refusal: Refusal, text: &mut String) -> Result<(), AllocError>
-    ensures { λ r. ⌜ made r (λ _. (refusal ≡ CrewSize) × (string-bytes (now (text .exit)) ≡ string-bytes (now (text .entry)) ++ (refused-at (code refusal) ++ codes "\n"))) ⌝ }
+    ensures { λ r. ⌜ made r (λ _.
+        (refusal ≡ CrewSize) × (string-bytes (now (text .exit)) ≡ string-bytes (now (text .entry)) ++ as-line (refused-at (code refusal)))) ⌝ }
 {
     match refusal {
         Refusal::CrewSize => write_line(text, refusal),

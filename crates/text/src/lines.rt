@@ -14,7 +14,8 @@ use std::alloc::AllocError;
 
 // Reads every line into the book and writes the answer to each; each line stands after a byte of its length.
 pub fn read_lines(book: &mut Book, lines: &[u8], text: &mut String) -> Result<(), AllocError>
-    ensures { λ r. ⌜ made r (λ _. Read (held (now (book .entry))) (now (lines .entry)) (string-bytes (now (text .entry))) (held (now (book .exit))) (string-bytes (now (text .exit)))) ⌝ }
+    ensures { λ r. ⌜ made r (λ _.
+        Read (now (lines .entry)) (held (now (book .entry))) (held (now (book .exit))) (string-bytes (now (text .entry))) (string-bytes (now (text .exit)))) ⌝ }
 {
     let mut rest = lines;
     while let Some((length, left)) = rest.split_first() {

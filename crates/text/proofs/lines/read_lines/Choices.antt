@@ -10,7 +10,8 @@ use Rattle.text.specs.Run.{answers, book-after}
 -- what is written so far, followed by what the rest gives, is the whole; and so with the book
 abbrev pub Inv-loop-length : given.InvT-loop-length
 Inv-loop-length l =
-    (string-bytes (l .text) ++ answers (held (l .book)) (pieces (l .rest)) ≡ string-bytes (l .entry .text) ++ answers (held (l .entry .book)) (pieces (l .lines)))
+    (string-bytes (l .text) ++ answers (held (l .book)) (pieces (l .rest))
+    ≡ string-bytes (l .entry .text) ++ answers (held (l .entry .book)) (pieces (l .lines)))
     × (book-after (held (l .book)) (pieces (l .rest)) ≡ book-after (held (l .entry .book)) (pieces (l .lines)))
 
 abbrev pub μ-loop-length : given.MeasureT-loop-length
