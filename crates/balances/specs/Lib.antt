@@ -1,0 +1,7 @@
+pub mod Even
+pub mod Flags
+pub mod Given
+pub mod Promise
+pub mod Range
+pub mod Signed
+pub mod View

@@ -1,0 +1,3 @@
+// Balances of the lines that stand: what each person owes or is owed.
+pub mod laws;
+pub mod sheet;
