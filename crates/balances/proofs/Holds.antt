@@ -5,7 +5,7 @@ use mathlib.Core.List.{List, [], _∷_}
 use Prim.Native.Nat.{ℕ, zero, suc, _+_, _-_, _≤_}
 use native.Mathlib.Omega.{arith}
 use lib.IntN.{ℤ, pos, natAbs}
-use lib.ListN.{getD, drop, replicate}
+use lib.ListN.{getD}
 use Rattle.std.proofs.shelf.Lists.{getD-drop}
 use Rattle.std.proofs.shelf.Tests.{and-parts}
 use Rattle.std.proofs.shelf.Ways.{tells}
@@ -16,17 +16,13 @@ use Rattle.balances.specs.View.{people-of, cents-of, sides-of}
 use Rattle.balances.specs.declared.sheet.Balances.{Balances}
 use Rattle.balances.proofs.Signs.{signed-even}
 use Rattle.balances.proofs.SpansZ.{spanZ-pad}
+use Rattle.balances.proofs.Zeros.{zero-at}
 
 pub near-each : (xs : List ℤ) (i : ℕ) → all-near xs ≡ true → natAbs (at-person xs i) ≤ most
 unfolding all-near
 near-each [] i h = omega arith
 near-each (x ∷ xs) zero h = grind (arith, tells)
 near-each (x ∷ xs) (suc i) h = near-each xs i (and-parts (not (far x)) (all-near xs) h .1)
-
-getD-zeros : (m i : ℕ) → getD (replicate m (pos 0)) i (pos 0) ≡ pos 0
-getD-zeros zero i = refl
-getD-zeros (suc m) zero = refl
-getD-zeros (suc m) (suc i) = getD-zeros m i
 
 module _ (b : Balances) where
   -- each person's number is in range
@@ -38,7 +34,7 @@ module _ (b : Balances) where
   absent-at i l =
       let place : b .people + (i - b .people) ≡ i = omega arith in
       ap (at-person (b .cents)) (sym place) ∙ sym (getD-drop (b .people) (b .cents) (i - b .people) (pos 0))
-      ∙ ap (λ xs. getD xs (i - b .people) (pos 0)) (b .absent) ∙ getD-zeros (16 - b .people) (i - b .people)
+      ∙ ap (λ xs. getD xs (i - b .people) (pos 0)) (b .absent) ∙ zero-at (16 - b .people) (i - b .people)
 
   -- the numbers of the people who are there sum to 0
   pub even-there : spanZ (cents-of b) (people-of b) ≡ pos 0

@@ -1,8 +1,10 @@
 pub mod Bounds
 pub mod Evens
+pub mod FirstFar
 pub mod Holds
 pub mod Marks
 pub mod Returns
 pub mod Signs
 pub mod SpansZ
 pub mod Standing
+pub mod Zeros

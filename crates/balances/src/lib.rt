@@ -1,3 +1,4 @@
 // Balances of the lines that stand: what each person owes or is owed.
 pub mod laws;
 pub mod sheet;
+pub mod unbalanced;

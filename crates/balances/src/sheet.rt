@@ -7,6 +7,7 @@ ghost use Prim.Native.Nat.{_-_, _≤_};
 ghost use Rattle.balances.specs.Range.{all-near};
 ghost use Rattle.balances.specs.Signed.{at-person, spanZ};
 
+pub mod making;
 pub mod reading;
 
 // A number of cents for each person, below 0 for who owes and above 0 for who is owed: all in range, 0 for those of
