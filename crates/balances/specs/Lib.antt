@@ -5,4 +5,5 @@ pub mod Given
 pub mod Promise
 pub mod Range
 pub mod Signed
+pub mod Tally
 pub mod View
