@@ -1,0 +1,13 @@
+pub mod Bounds
+pub mod Counts
+pub mod Evens
+pub mod FirstFar
+pub mod Holds
+pub mod Returns
+pub mod Signs
+pub mod SpansZ
+pub mod Standing
+pub mod Sums
+pub mod Turns
+pub mod Writes
+pub mod Zeros
