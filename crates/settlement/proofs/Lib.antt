@@ -1,0 +1,17 @@
+pub mod Spans
+pub mod Moved
+pub mod Classes
+pub mod Ranks
+pub mod Fewest
+pub mod Firsts
+pub mod Paid
+pub mod Joined
+pub mod Settled
+pub mod Numbered
+pub mod Best
+pub mod Carried
+pub mod Partings
+pub mod Steps
+pub mod Signs
+pub mod Crews
+pub mod Examples
