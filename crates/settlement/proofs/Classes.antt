@@ -13,7 +13,7 @@ use Rattle.shares.specs.Bill.{pick}
 use Rattle.shares.specs.Span.{span}
 use Rattle.book.specs.Ledger.{Payment}
 use Rattle.settlement.specs.Settle.{out, into}
-use Rattle.settlement.proofs.Spans.{span-add, span-le, span-same, span-one}
+use Rattle.shares.proofs.Spans.{span-add, span-mono, span-same, span-one}
 
 -- the sum of w over class j, of the first n people
 abbrev pub within : (ℕ → ℕ) → (ℕ → ℕ) → ℕ → ℕ → ℕ
@@ -85,10 +85,10 @@ class-even n c (p ∷ ps) j h =
 merge-opened : (c w : ℕ → ℕ) (x y n m : ℕ) → opened c w n m ≤ suc (opened (λ i. merged x y (c i)) w n m)
 merge-opened c w x y n m =
     let d : ℕ → ℕ = λ i. merged x y (c i) in
-    let le = span-le (λ j. pick (ltb 0 (within c w n j)) 1 0) (λ j. pick (eqb x j) 1 0 + pick (ltb 0 (within d w n j)) 1 0) m
+    let le = span-mono (λ j. pick (ltb 0 (within c w n j)) 1 0) (λ j. pick (eqb x j) 1 0 + pick (ltb 0 (within d w n j)) 1 0) m
     (λ j l. elim (cases-eq x j) [
       | inl e ↦ grind arith
-      | inr e ↦ grind (arith, span-le (λ i. pick (eqb (c i) j) (w i) 0) (λ i. pick (eqb (d i) j) (w i) 0) n (λ i l. grind arith))
+      | inr e ↦ grind (arith, span-mono (λ i. pick (eqb (c i) j) (w i) 0) (λ i. pick (eqb (d i) j) (w i) 0) n (λ i l. grind arith))
     ]) in
     let one : span (λ j. pick (eqb x j) 1 0) m ≤ 1 = grind (arith, span-one x 1 m) in
     omega (arith, span-add (λ j. pick (eqb x j) 1 0) (λ j. pick (ltb 0 (within d w n j)) 1 0) m)
@@ -96,7 +96,7 @@ merge-opened c w x y n m =
 -- people with something open, each a class of its own
 alone : (w : ℕ → ℕ) (n : ℕ) → span (λ i. pick (ltb 0 (w i)) 1 0) n ≤ opened (λ i. i) w n n
 alone w n =
-    span-le (λ i. pick (ltb 0 (w i)) 1 0) (λ j. pick (ltb 0 (within (λ i. i) w n j)) 1 0) n
+    span-mono (λ i. pick (ltb 0 (w i)) 1 0) (λ j. pick (ltb 0 (within (λ i. i) w n j)) 1 0) n
     (λ j l. grind (arith, own j l))
   where
     own : (j : ℕ) → j < n → within (λ i. i) w n j ≡ w j

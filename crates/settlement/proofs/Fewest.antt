@@ -14,7 +14,7 @@ use Rattle.groups.specs.Groups.{Groups, still-open}
 use Rattle.book.specs.Ledger.{Payment}
 use Rattle.settlement.specs.Settle.{out, into, Settles}
 use Rattle.settlement.specs.Promise.{Groups-bound}
-use Rattle.settlement.proofs.Spans.{span-same, span-at, span-some}
+use Rattle.shares.proofs.Spans.{span-same, at-most-span, span-some}
 use Rattle.settlement.proofs.Classes.{within, opened, classes, Among, inside, classes-below, within-add, class-even, classes-opened}
 use Rattle.settlement.proofs.Ranks.{rank, rank-less, rank-same, ranked}
 
@@ -49,7 +49,7 @@ class-groups b ps s = record { group = number; below = below; even = even; some 
     -- the class of an open person is open
     has : (i : ℕ) → i < n → 0 < b .owes i + b .owed i → 0 < sums (classes ps i)
     has i l h =
-        let k = span-at (λ k. pick (eqb (classes ps k) (classes ps i)) (b .owes k + b .owed k) 0) n i l in
+        let k = at-most-span (λ k. pick (eqb (classes ps k) (classes ps i)) (b .owes k + b .owed k) 0) n i l in
         grind arith
 
     below : (i : ℕ) → i < n → 0 < b .owes i + b .owed i → number i < opened (classes ps) (λ i. b .owes i + b .owed i) n n

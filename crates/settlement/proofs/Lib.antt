@@ -1,4 +1,3 @@
-pub mod Spans
 pub mod Moved
 pub mod Classes
 pub mod Ranks
@@ -12,6 +11,5 @@ pub mod Best
 pub mod Carried
 pub mod Partings
 pub mod Steps
-pub mod Signs
 pub mod Crews
 pub mod Examples

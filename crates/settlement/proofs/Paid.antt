@@ -14,7 +14,7 @@ use Rattle.settlement.specs.Parted.{in-group}
 use Rattle.book.specs.Ledger.{Payment}
 use Rattle.settlement.specs.Settle.{out, into, money}
 use Rattle.settlement.specs.Paying.{first, has, less-at, group-payments}
-use Rattle.settlement.proofs.Spans.{span-add, span-same, span-none, span-at, span-one}
+use Rattle.shares.proofs.Spans.{span-add, span-same, span-zero, at-most-span, span-one}
 use Rattle.settlement.proofs.Classes.{Among}
 use Rattle.settlement.proofs.Firsts.{first-passes, first-least}
 
@@ -53,8 +53,8 @@ module _ (n : ℕ) (m : ℕ → Bool) where
   closed owes owed h = record {
     there = tt;
     quits = λ i l. omega (arith, h i l);
-    moves = omega (arith, span-none (λ i. pick (m i) (owes i) 0) n (λ i l. omega (arith, h i l)));
-    few = grind (arith, span-none (λ i. pick (m i) (one-open owes owed i) 0) n (λ i l. grind (arith, h i l)));
+    moves = omega (arith, span-zero (λ i. pick (m i) (owes i) 0) n (λ i l. omega (arith, h i l)));
+    few = grind (arith, span-zero (λ i. pick (m i) (one-open owes owed i) 0) n (λ i l. grind (arith, h i l)));
   }
 
   -- a taken off at p
@@ -70,7 +70,7 @@ module _ (n : ℕ) (m : ℕ → Bool) where
 
   -- a group with an open person is open
   pub still : (f g : ℕ → ℕ) (i : ℕ) → i < n → m i ≡ true → 0 < f i + g i → 0 < in-group n m (one-open f g)
-  still f g i l t h = grind (arith, span-at (λ i. pick (m i) (one-open f g i) 0) n i l)
+  still f g i l t h = grind (arith, at-most-span (λ i. pick (m i) (one-open f g i) 0) n i l)
 
   module _ (owes owed : ℕ → ℕ) (one : One-side n owes owed) (p q a : ℕ) (a-is : a ≡ min (owes p) (owed q))
       (p-in : p < n) (p-of : m p ≡ true) (p-has : 0 < owes p) (q-in : q < n) (q-of : m q ≡ true) (q-has : 0 < owed q) where
@@ -150,14 +150,14 @@ module _ (n : ℕ) (m : ℕ → Bool) where
   empty : (f g : ℕ → ℕ) → in-group n m f ≡ in-group n m g → n ≤ first (has m f) n → (i : ℕ) → i < n → pick (m i) (f i) 0 + pick (m i) (g i) 0 ≡ 0
   empty f g e h i l =
       let none : (i : ℕ) → i < n → pick (m i) (f i) 0 ≡ 0 = λ i l. grind (arith, first-least (has m f) n i l) in
-      omega (arith, none i l, span-none (λ i. pick (m i) (f i) 0) n none, span-at (λ i. pick (m i) (g i) 0) n i l)
+      omega (arith, none i l, span-zero (λ i. pick (m i) (f i) 0) n none, at-most-span (λ i. pick (m i) (g i) 0) n i l)
 
   -- payments of a group that comes out even settle it
   pub paid : (k : ℕ) (owes owed : ℕ → ℕ) → One-side n owes owed → in-group n m owes ≡ in-group n m owed → in-group n m (one-open owes owed) ≤ k →
       Paid n m owes owed (group-payments k n m owes owed)
   unfolding group-payments
   paid zero owes owed one even short =
-      closed owes owed (λ i l. grind (arith, span-at (λ i. pick (m i) (one-open owes owed i) 0) n i l))
+      closed owes owed (λ i l. grind (arith, at-most-span (λ i. pick (m i) (one-open owes owed i) 0) n i l))
   paid (suc k) owes owed one even short =
       let p : ℕ = first (has m owes) n in
       let q : ℕ = first (has m owed) n in

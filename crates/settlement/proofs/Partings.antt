@@ -14,7 +14,7 @@ use Rattle.shares.specs.Span.{span}
 use Rattle.balances.specs.Even.{Balances}
 use Rattle.groups.specs.Groups.{Groups}
 use Rattle.settlement.specs.Parted.{times, in-group, Even-group, Parted}
-use Rattle.settlement.proofs.Spans.{span-same, span-at, span-some}
+use Rattle.shares.proofs.Spans.{span-same, at-most-span, span-some}
 
 -- nobody
 abbrev nobody : ℕ → Bool
@@ -70,8 +70,8 @@ parted-groups b ms h = record { group = place ms; below = λ i l x. place-below 
         let e = each j l in
         let s = e .some in
         let m : ℕ → Bool = getD ms j nobody in
-        let u = span-at (λ i. pick (m i) (b .owes i) 0) n (s .0) (s .1) in
-        let v = span-at (λ i. pick (m i) (b .owed i) 0) n (s .0) (s .1) in
+        let u = at-most-span (λ i. pick (m i) (b .owes i) 0) n (s .0) (s .1) in
+        let v = at-most-span (λ i. pick (m i) (b .owed i) 0) n (s .0) (s .1) in
         let x : 0 < in-group n m (b .owes) = grind (arith, e .even, s .2, s .3) in
         let r = span-some (λ i. pick (m i) (b .owes i) 0) n x in
         let y : m (r .0) ≡ true = grind (arith, r .2) in

@@ -17,10 +17,10 @@ use Rattle.settlement.specs.Parted.{times, in-group, Even-group, Parted}
 use Rattle.book.specs.Ledger.{Payment}
 use Rattle.settlement.specs.Settle.{out, into, money, Settles}
 use Rattle.balances.specs.Signed.{signed}
-use Rattle.groups.specs.Sets.{member}
+use Rattle.groups.specs.Sets.{isIn}
 use Rattle.settlement.specs.Paying.{group-payments, all-payments, settlement}
 use Rattle.settlement.specs.Promise.{Sets-settle}
-use Rattle.settlement.proofs.Spans.{span-add, span-same, span-none, span-count}
+use Rattle.shares.proofs.Spans.{span-add, span-same, span-zero, span-count}
 use Rattle.settlement.proofs.Classes.{Among}
 use Rattle.settlement.proofs.Paid.{one-open, paid, still}
 use Rattle.settlement.proofs.Joined.{out-append, into-append, money-append}
@@ -53,7 +53,7 @@ unfolding all-payments out into money times
 paid-all b e [] h = record {
   there = tt;
   quits = λ i l. refl;
-  moves = sym (span-none (λ i. 0) (b .people) (λ i l. refl));
+  moves = sym (span-zero (λ i. 0) (b .people) (λ i l. refl));
   few = omega arith;
 }
 paid-all b e (m ∷ ms) h =
@@ -104,5 +104,5 @@ parted-settles b e ms h =
 pub sets-settle : Sets-settle
 unfolding settlement
 sets-settle n f sets e h =
-    let d = parted-settles (signed n f) e (map member sets) h in
-    (d .0, omega (arith, d .1, length-map sets member), d .2)
+    let d = parted-settles (signed n f) e (map isIn sets) h in
+    (d .0, omega (arith, d .1, length-map sets isIn), d .2)

@@ -1,10 +1,5 @@
-pub mod Span
-pub mod Balances
-pub mod Groups
-pub mod Payment
-pub mod Settle
-pub mod Book
-pub mod Sound
-pub mod Paying
 pub mod Parted
+pub mod Paying
 pub mod Promise
+pub mod Settle
+pub mod Written

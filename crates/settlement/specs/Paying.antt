@@ -4,13 +4,10 @@ use mathlib.Core.List.{List, [], _∷_, _++_, map}
 use Prim.Native.Nat.{ℕ, zero, suc, _-_, _/_, _%_, _^_, min}
 use lib.Dec.{ltb, eqb}
 use lib.IntN.{ℤ, pos, negsuc}
+use Rattle.balances.specs.Signed.{debt, credit}
+use Rattle.groups.specs.Sets.{isIn}
 use Rattle.shares.specs.Bill.{pick}
-use Rattle.balances.specs.Even.{Balances}
 use Rattle.book.specs.Ledger.{Payment}
-
--- is person i in a set, the bits of a number
-abbrev pub member : ℕ → ℕ → Bool
-member set i = eqb (set / 2 ^ i % 2) 1
 
 -- the first found below n, or n itself where it passes, or the number after it
 abbrev pub earlier : (ℕ → Bool) → ℕ → ℕ → ℕ
@@ -46,20 +43,6 @@ unfoldable pub all-payments : ℕ → List (ℕ → Bool) → (ℕ → ℕ) → 
 all-payments n [] owes owed = []
 all-payments n (m ∷ ms) owes owed = group-payments n n m owes owed ++ all-payments n ms owes owed
 
--- what a balance owes
-abbrev pub debt : ℤ → ℕ
-debt (pos n) = 0
-debt (negsuc n) = suc n
-
--- what a balance is owed
-abbrev pub credit : ℤ → ℕ
-credit (pos n) = n
-credit (negsuc n) = 0
-
--- n signed balances
-abbrev pub signed : ℕ → (ℕ → ℤ) → Balances
-signed n f = record { people = n; owes = λ i. debt (f i); owed = λ i. credit (f i) }
-
 -- the settlement of n signed balances by sets of people
 unfoldable pub settlement : ℕ → List ℕ → (ℕ → ℤ) → List Payment
-settlement n sets f = all-payments n (map member sets) (λ i. debt (f i)) (λ i. credit (f i))
+settlement n sets f = all-payments n (map isIn sets) (λ i. debt (f i)) (λ i. credit (f i))
