@@ -13,3 +13,7 @@ pub mod Partings
 pub mod Steps
 pub mod Crews
 pub mod Examples
+pub mod Filled
+pub mod Read
+pub mod Turns
+pub mod Rounds

@@ -1,5 +1,7 @@
+pub mod Amounts
 pub mod Parted
 pub mod Paying
 pub mod Promise
+pub mod Reading
 pub mod Settle
 pub mod Written

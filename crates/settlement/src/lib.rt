@@ -1,4 +1,8 @@
 // Settlements: how few payments and how little money settle balances, proved of every list of payments.
+mod paying;
+pub mod payment;
+mod sides;
+
 ghost use Rattle.settlement.specs.Promise.{Money-bound, Groups-bound, Groups-settle, Sets-settle, Sets-best, Carried-out};
 
 // No settlement moves less than what is owed.
