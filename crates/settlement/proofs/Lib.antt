@@ -11,9 +11,9 @@ pub mod Best
 pub mod Carried
 pub mod Partings
 pub mod Steps
-pub mod Crews
-pub mod Examples
 pub mod Filled
 pub mod Read
 pub mod Turns
 pub mod Rounds
+pub mod Examples
+pub mod Few

@@ -3,6 +3,7 @@ mod paying;
 pub mod payment;
 mod sides;
 
+ghost use Rattle.settlement.specs.Crews.{Crews-settled};
 ghost use Rattle.settlement.specs.Promise.{Money-bound, Groups-bound, Groups-settle, Sets-settle, Sets-best, Carried-out};
 
 // No settlement moves less than what is owed.
@@ -33,4 +34,9 @@ pub fn sets_best()
 // A settlement carried out and written into the book leaves nothing open.
 pub fn carried_out()
     ensures { λ _. ⌜ Carried-out ⌝ }
+{}
+
+// The payments of example crews.
+pub fn crews_settled()
+    ensures { λ _. ⌜ Crews-settled ⌝ }
 {}
