@@ -1,5 +1,5 @@
 -- A table of amounts that is filled person by person.
-use mathlib.Core.Path.{_≡_, refl, ap, _∙_}
+use mathlib.Core.Path.{_≡_, refl, _∙_}
 use mathlib.Core.List.{List}
 use mathlib.Core.Logic.{inl, inr}
 use Prim.Native.Nat.{ℕ, zero, suc, _+_, _≤_, _<_}
@@ -25,20 +25,19 @@ zeros (suc m) (suc i) = zeros m i
 pub filled-none : (m : ℕ) (f : ℕ → ℕ) → Filled m 0 f (replicate m 0)
 filled-none m f = record { long = length-replicate m 0; each = λ i. zeros m i ∙ grind (arith, tells) }
 
--- one person more
-pub filled-more :
-    (m n : ℕ) (f : ℕ → ℕ) (xs : List ℕ) (x : ℕ) → n < m → x ≡ f n → Filled m n f xs → Filled m (n + 1) f (set xs n x)
-filled-more m n f xs x l here h = record {
-  long = length-set xs n x ∙ h .long;
-  each = λ i.
-      elim (cases-eq i n) [
-        | inl e ↦ let same = getD-set-same xs n x 0 (omega (arith, h .long)) in rw e (same ∙ here ∙ grind (arith, tells))
-        | inr d ↦ getD-set-other xs n i x 0 d ∙ h .each i ∙ grind (arith, tells)
-      ];
-}
+module _ {m n : ℕ} {f : ℕ → ℕ} {xs : List ℕ} (h : Filled m n f xs) where
+  -- one person more
+  pub filled-more : {x : ℕ} → n < m → x ≡ f n → Filled m (n + 1) f (set xs n x)
+  filled-more {x} l here = record {
+    long = length-set xs n x ∙ h .long;
+    each = λ i.
+        elim (cases-eq i n) [
+          | inl e ↦ let same = getD-set-same xs n x 0 (omega (arith, h .long)) in rw e (same ∙ here ∙ grind (arith, tells))
+          | inr d ↦ getD-set-other xs n i x 0 d ∙ h .each i ∙ grind (arith, tells)
+        ];
+  }
 
--- where f is 0 after the last the table is f
-pub filled-all :
-    (m n : ℕ) (f : ℕ → ℕ) (xs : List ℕ) → ((i : ℕ) → n ≤ i → f i ≡ 0) → Filled m n f xs → (i : ℕ) → amount-at xs i ≡ f i
-filled-all m n f xs none h i =
-    elim (cases-lt i n) [ inl l ↦ h .each i ∙ grind (arith, tells) | inr l ↦ let z = none i l in h .each i ∙ grind (arith, tells) ]
+  -- where f is 0 after the last the table is f
+  pub filled-all : ((i : ℕ) → n ≤ i → f i ≡ 0) → (i : ℕ) → amount-at xs i ≡ f i
+  filled-all none i =
+      elim (cases-lt i n) [ inl l ↦ h .each i ∙ grind (arith, tells) | inr l ↦ let z = none i l in h .each i ∙ grind (arith, tells) ]

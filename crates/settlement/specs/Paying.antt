@@ -1,9 +1,9 @@
 -- The settlement from groups: in each group the first who owes pays the first who is owed, until the group is even.
 use mathlib.Core.Bool.{Bool, true, false, _&&_}
 use mathlib.Core.List.{List, [], _∷_, _++_, map}
-use Prim.Native.Nat.{ℕ, zero, suc, _-_, _/_, _%_, _^_, min}
+use Prim.Native.Nat.{ℕ, zero, suc, _-_, min}
 use lib.Dec.{ltb, eqb}
-use lib.IntN.{ℤ, pos, negsuc}
+use lib.IntN.{ℤ}
 use Rattle.balances.specs.Signed.{debt, credit}
 use Rattle.groups.specs.Sets.{isIn}
 use Rattle.shares.specs.Bill.{pick}

@@ -13,28 +13,28 @@ loop-turn-holds c = (record { whole = rw sub-zero refl }, refl)
 
 pub returns-in-rest : need.returns-in-rest
 returns-in-rest c = record {
-  paid = turn-none (c .loop-turn .inv .0) (c .loop-turn-test .taken) (inl (c .in-rest .ensures tt));
+  paid = turn-none (c .loop-turn .inv .0) (omega arith) (inl (c .in-rest .ensures tt));
   room = c .loop-turn .inv .1;
 }
 
 pub returns-in-rest-first-with : need.returns-in-rest-first-with
 returns-in-rest-first-with c = record {
-  paid = turn-none (c .loop-turn .inv .0) (c .loop-turn-test .taken) (inr (c .in-rest-first-with .ensures tt));
+  paid = turn-none (c .loop-turn .inv .0) (omega arith) (inr (c .in-rest-first-with .ensures tt));
   room = c .loop-turn .inv .1;
 }
 
 pub push-reserved-requires : need.push-reserved-requires
 push-reserved-requires c κs =
     let more =
-    turn-room (c .loop-turn .inv .0) (c .loop-turn-test .taken) (c .in-Some .ensures tt) (c .in-Some-first-with .ensures tt) (c .min-amount .ensures) in
+    turn-room (c .loop-turn .inv .0) (omega arith) (c .in-Some .ensures tt) (c .in-Some-first-with .ensures tt) (c .min-amount .ensures) in
     omega (arith, simp (length-append, read-length) at more, c .loop-turn .payments .ok .0, c .args .payments .now .ok .0)
 
 pub loop-turn-again : need.loop-turn-again
 loop-turn-again c = (
-  turn-again (c .loop-turn .inv .0) (c .loop-turn-test .taken) (c .in-Some .ensures tt) (c .in-Some-first-with .ensures tt) (c .min-amount .ensures)
+  turn-again (c .loop-turn .inv .0) (omega arith) (c .in-Some .ensures tt) (c .in-Some-first-with .ensures tt) (c .min-amount .ensures)
       (c .push-reserved .ensures .items),
   c .push-reserved .ensures .capacity ∙ c .loop-turn .inv .1,
 )
 
 pub returns : need.returns
-returns c = record { paid = turn-last (c .loop-turn .inv .0) (c .loop-turn-test .left); room = c .loop-turn .inv .1 }
+returns c = record { paid = turn-last (c .loop-turn .inv .0) (omega arith); room = c .loop-turn .inv .1 }

@@ -1,3 +1,4 @@
+-- The balance that was read fits, and so its size is the one that the definition gives.
 use mathlib.Core.Path.{_≡_, ap, _∙_}
 use native.Mathlib.Omega.{arith}
 use borrow.Author.Needs.{needs}
@@ -6,22 +7,17 @@ use mir.Val.{SFits}
 use Rattle.std.proofs.shelf.Signed.{toZ-ofZ}
 use Rattle.balances.proofs.Holds.{absent-at}
 use Rattle.balances.specs.Signed.{debt}
-use Rattle.balances.specs.View.{cents-of}
 use Rattle.settlement.proofs.Filled.{filled-all, filled-more, filled-none}
 use Rattle.settlement.proofs.sides.debts.Needs as need
 
 pub loop-person-holds : need.loop-person-holds
-loop-person-holds c = filled-none 16 (λ i. debt (cents-of (c .args .balances .now) i))
+loop-person-holds c = filled-none 16 _
 
 pub loop-person-again : need.loop-person-again
 loop-person-again c =
     let fits : SFits w64 (c .balance .result) = search needs in
     let here : c .debt .result ≡ debt (c .balance .result) = simp toZ-ofZ at (c .debt .ensures) in
-    filled-more 16 (c .loop-person .person) (λ i. debt (cents-of (c .args .balances .now) i)) (c .loop-person .amounts) (c .debt .result)
-    (omega (arith, c .args .balances .now .crew)) (here ∙ ap debt (c .balance .ensures)) (c .loop-person .inv)
+    filled-more (c .loop-person .inv) (omega (arith, c .args .balances .now .crew)) (here ∙ ap debt (c .balance .ensures))
 
 pub returns : need.returns
-returns c =
-    let b = c .args .balances .now in
-    filled-all 16 (c .loop-person .person) (λ i. debt (cents-of b i)) (c .loop-person .amounts)
-    (λ i l. ap debt (absent-at b i (omega arith))) (c .loop-person .inv)
+returns c = filled-all (c .loop-person .inv) (λ i l. ap debt (absent-at (c .args .balances .now) i (omega arith)))
