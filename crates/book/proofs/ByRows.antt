@@ -43,8 +43,8 @@ payment-agrees : (s t o same : Bool) (from to amount : ℕ) (rest : Option (ℕ 
     Agrees
     (asked (unless s from) (UnknownPerson 1)
     (λ p.
-        asked (unless t to) (UnknownPerson 2)
-        (λ q. asked (unless o amount) (AmountOutOfRange 3) (λ a. cond (eqb p q) (Err PaidToSelf) (Ok (record { line = Payment p q a; weights = replicate 16 0 }))))))
+    asked (unless t to) (UnknownPerson 2)
+    (λ q. asked (unless o amount) (AmountOutOfRange 3) (λ a. cond (eqb p q) (Err PaidToSelf) (Ok (record { line = Payment p q a; weights = replicate 16 0 }))))))
     (told 4 (cond s (Some 1) (cond t (Some 2) None)) (told 5 (cond o (Some 3) None) (told 8 (at-place (eqb from to) 2) rest))) rest
 payment-agrees true t o same from to amount rest e = refl
 payment-agrees false true o same from to amount rest e = refl

@@ -20,10 +20,10 @@ module _ (h : Held) (bs : List ℕ) (d : Row) where
 
   stops-later : (r : Row) (rs : List Row) (k place : ℕ) → r .applies h bs ≡ None → Stops rs h bs d k place → Stops (r ∷ rs) h bs d (suc k) place
   stops-later r rs k place none s = record { there = omega (arith, s .there); here = s .here; none-before = before }
-      where
-        before : (j : ℕ) → j < suc k → getD (r ∷ rs) j d .applies h bs ≡ None
-        before zero lt = none
-        before (suc j) lt = s .none-before j (omega arith)
+    where
+      before : (j : ℕ) → j < suc k → getD (r ∷ rs) j d .applies h bs ≡ None
+      before zero lt = none
+      before (suc j) lt = s .none-before j (omega arith)
 
   stops-on : (r : Row) (rs : List Row) (k place : ℕ) → Stops (r ∷ rs) h bs d (suc k) place → Stops rs h bs d k place
   stops-on r rs k place s = record { there = omega (arith, s .there); here = s .here; none-before = λ j lt. s .none-before (suc j) (omega arith) }

@@ -81,10 +81,10 @@ struck-at (Payment from to amount) marks k d h = grind arith
 struck-at (TakeBack j) marks k d h =
     ⊎-elim
     (λ (is : j ≡ k).
-        let eq = eq-eqb j k is in
-        let same = getD-set-same marks k false d h in
-        let at : getD (set marks j false) k d ≡ false = ap (λ i. getD (set marks i false) k d) is ∙ same in
-        grind arith)
+    let eq = eq-eqb j k is in
+    let same = getD-set-same marks k false d h in
+    let at : getD (set marks j false) k d ≡ false = ap (λ i. getD (set marks i false) k d) is ∙ same in
+    grind arith)
     (λ isnt. let ne = ne-eqb j k isnt in let other = getD-set-other marks j k false d (λ e. isnt (sym e)) in grind arith)
     (cases-eq j k)
 
@@ -95,15 +95,15 @@ marks-are : (es : List Entry) (e : Entry) (marks : List Bool) →
 marks-are es e marks len each last =
     same-lists _ _ (omega (arith, length-push marks true, length-standing (es ++ (e ∷ [])), length-push es e))
     (λ k d h.
-        let there : k < length es + 1 = omega (arith, length-push marks true) in
-        standing-of k d there ∙ sym (standing-at (es ++ (e ∷ [])) k d (omega (arith, length-push es e))))
-    where
-      standing-of : (k : ℕ) (d : Bool) → k < length es + 1 → getD (marks ++ (true ∷ [])) k d ≡ not (taken (es ++ (e ∷ [])) k)
-      standing-of k d there =
-          ⊎-elim
-          (λ old. getD-append-left marks (true ∷ []) d k (omega arith) ∙ each k d old)
-          (λ new. let is : k ≡ length es = omega arith in getD-push marks true d k (omega arith) ∙ sym (ap not (ap (taken (es ++ (e ∷ []))) is ∙ last)))
-          (cases-lt k (length es))
+    let there : k < length es + 1 = omega (arith, length-push marks true) in
+    standing-of k d there ∙ sym (standing-at (es ++ (e ∷ [])) k d (omega (arith, length-push es e))))
+  where
+    standing-of : (k : ℕ) (d : Bool) → k < length es + 1 → getD (marks ++ (true ∷ [])) k d ≡ not (taken (es ++ (e ∷ [])) k)
+    standing-of k d there =
+        ⊎-elim
+        (λ old. getD-append-left marks (true ∷ []) d k (omega arith) ∙ each k d old)
+        (λ new. let is : k ≡ length es = omega arith in getD-push marks true d k (omega arith) ∙ sym (ap not (ap (taken (es ++ (e ∷ []))) is ∙ last)))
+        (cases-lt k (length es))
 
 -- the marks after a line that may follow: that of the line it takes back is struck, and it stands itself
 pub standing-push : (n : ℕ) (es : List Entry) (e : Entry) → orderly n es ≡ true → follows n es (e .weights) (e .line) ≡ true →
@@ -135,8 +135,8 @@ stands-push n es e ordered f k =
     let push = taken-push es e k in
     ⊎-elim
     (λ (is : k ≡ length es).
-        let yet = not-taken-yet n [] es k ordered (omega arith) in
-        let late = returns-earlier n es (e .weights) (e .line) k f (omega arith) in
-        grind (arith, tells))
+    let yet = not-taken-yet n [] es k ordered (omega arith) in
+    let late = returns-earlier n es (e .weights) (e .line) k f (omega arith) in
+    grind (arith, tells))
     (λ isnt. grind (arith, tells))
     (cases-eq k (length es))

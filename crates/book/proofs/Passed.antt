@@ -73,8 +73,8 @@ module _ (n : ℕ) (bs : List ℕ) (few : n ≤ 16) where
       Passes n bs (Some kind.Bill)
       (asked (unless s (byte bs 1)) (UnknownPerson 1)
       (λ p.
-          asked (unless o (four-bytes bs 2)) (AmountOutOfRange 2)
-          (λ a. clear heavy WeightTooLarge (asked (unless w (weights-of n bs)) NoWeight (λ v. Ok (record { line = Bill p a; weights = v }))))))
+      asked (unless o (four-bytes bs 2)) (AmountOutOfRange 2)
+      (λ a. clear heavy WeightTooLarge (asked (unless w (weights-of n bs)) NoWeight (λ v. Ok (record { line = Bill p a; weights = v }))))))
   bill-passes true o heavy w hs ho hh hw = tt
   bill-passes false true heavy w hs ho hh hw = tt
   bill-passes false false (Some i) w hs ho hh hw = tt
@@ -86,10 +86,10 @@ module _ (n : ℕ) (bs : List ℕ) (few : n ≤ 16) where
       Passes n bs (Some kind.Payment)
       (asked (unless s (byte bs 1)) (UnknownPerson 1)
       (λ p.
-          asked (unless t (byte bs 2)) (UnknownPerson 2)
-          (λ q.
-              asked (unless o (four-bytes bs 3)) (AmountOutOfRange 3)
-              (λ a. cond (eqb p q) (Err PaidToSelf) (Ok (record { line = Payment p q a; weights = replicate 16 0 }))))))
+      asked (unless t (byte bs 2)) (UnknownPerson 2)
+      (λ q.
+      asked (unless o (four-bytes bs 3)) (AmountOutOfRange 3)
+      (λ a. cond (eqb p q) (Err PaidToSelf) (Ok (record { line = Payment p q a; weights = replicate 16 0 }))))))
   payment-passes true t o same hs ht ho hq = tt
   payment-passes false true o same hs ht ho hq = tt
   payment-passes false false true same hs ht ho hq = tt

@@ -63,19 +63,19 @@ abbrev pub bill-of : ℕ → List ℕ → Result Entry Refusal
 bill-of n bs =
     asked (person-at n bs 1) (UnknownPerson 1)
     (λ payer.
-        asked (amount-at bs 2) (AmountOutOfRange 2)
-        (λ amount.
-            clear (heavy-at n bs) WeightTooLarge
-            (asked (some-weight (weights-of n bs)) NoWeight (λ ws. Ok (record { line = Bill payer amount; weights = ws })))))
+    asked (amount-at bs 2) (AmountOutOfRange 2)
+    (λ amount.
+    clear (heavy-at n bs) WeightTooLarge
+    (asked (some-weight (weights-of n bs)) NoWeight (λ ws. Ok (record { line = Bill payer amount; weights = ws })))))
 
 abbrev pub payment-of : ℕ → List ℕ → Result Entry Refusal
 payment-of n bs =
     asked (person-at n bs 1) (UnknownPerson 1)
     (λ from.
-        asked (person-at n bs 2) (UnknownPerson 2)
-        (λ to.
-            asked (amount-at bs 3) (AmountOutOfRange 3)
-            (λ amount. cond (eqb from to) (Err PaidToSelf) (Ok (record { line = Payment from to amount; weights = replicate 16 0 })))))
+    asked (person-at n bs 2) (UnknownPerson 2)
+    (λ to.
+    asked (amount-at bs 3) (AmountOutOfRange 3)
+    (λ amount. cond (eqb from to) (Err PaidToSelf) (Ok (record { line = Payment from to amount; weights = replicate 16 0 })))))
 
 abbrev pub of-kind : ℕ → List ℕ → Kind → Result Entry Refusal
 of-kind n bs kind.Bill = bill-of n bs

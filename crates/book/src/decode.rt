@@ -10,7 +10,9 @@ use crate::line::Line;
 use crate::refusal::Refusal;
 
 const MAX_AMOUNT: u32 = 1_000_000_000;
+
 const MAX_WEIGHT: u16 = 1_000;
+
 const NO_WEIGHTS: [u16; 16] = [0; 16];
 
 // The entry that the bytes say for so many people, or the refusal of what is wrong in them.
@@ -28,7 +30,9 @@ pub(crate) fn decode(people: u8, bytes: &[u8]) -> Result<Entry, Refusal>
         Kind::Bill => bill(people, bytes),
         Kind::Payment => payment(people, bytes),
         Kind::TakeBack => Ok(Entry {
-            line: Line::TakeBack { number: u16_at(bytes, 1) },
+            line: Line::TakeBack {
+                number: u16_at(bytes, 1),
+            },
             weights: NO_WEIGHTS,
         }),
     }
@@ -117,7 +121,11 @@ fn amount(bytes: &[u8], at: usize) -> Option<u32>
     ensures { λ r. ⌜ r ≡ amount-at (now (bytes .entry)) at ⌝ }
 {
     let amount = u32_at(bytes, at);
-    if amount == 0 || amount > MAX_AMOUNT { None } else { Some(amount) }
+    if amount == 0 || amount > MAX_AMOUNT {
+        None
+    } else {
+        Some(amount)
+    }
 }
 
 // Where the first weight above 1,000 begins, if there is one.

@@ -54,11 +54,12 @@ pub span-at : (p a n : ℕ) → p < n → span (λ i. pick (eqb p i) a 0) n ≡ 
 unfolding span
 span-at p a zero l = omega arith
 span-at p a (suc n) l =
-    elim (cases-eq p n)
-    [ inl last ↦
-        let rest : span (λ i. pick (eqb p i) a 0) n ≡ 0 = span-zero (λ i. pick (eqb p i) a 0) n (λ i below. grind (arith, tells)) in
-        grind (arith, tells)
-    | inr other ↦ let rest : span (λ i. pick (eqb p i) a 0) n ≡ a = span-at p a n (omega arith) in grind (arith, tells) ]
+    elim (cases-eq p n) [
+      | inl last ↦
+          let rest : span (λ i. pick (eqb p i) a 0) n ≡ 0 = span-zero (λ i. pick (eqb p i) a 0) n (λ i below. grind (arith, tells)) in
+          grind (arith, tells)
+      | inr other ↦ let rest : span (λ i. pick (eqb p i) a 0) n ≡ a = span-at p a n (omega arith) in grind (arith, tells)
+    ]
 
 excess : (f g : ℕ → ℕ) (n : ℕ) → span (λ i. f i - g i) n + span g n ≡ span (λ i. g i - f i) n + span f n
 unfolding span

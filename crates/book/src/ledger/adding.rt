@@ -21,6 +21,7 @@ use crate::refusal::Refusal;
 use std::alloc::Global;
 
 const MAX_PEOPLE: u8 = 16;
+
 const MAX_LINES: usize = 4096;
 
 impl Book {
@@ -84,7 +85,11 @@ impl Book {
         let Line::TakeBack { number } = entry.line else {
             return Some(entry);
         };
-        if self.returnable(number as usize) { Some(entry) } else { None }
+        if self.returnable(number as usize) {
+            Some(entry)
+        } else {
+            None
+        }
     }
 
     // Can the line of that number be taken back: it is there, takes nothing back and was not taken back.

@@ -29,7 +29,7 @@ ghost-self c =
     let ordered = ap (orderly (self .people)) (pushed .items) ∙ orderly-push (self .people) [] es (c .args .entry) (self .ordered) (c .pre .fits) in
     let struck-marks = c .strike .ensures .marks ∙ ap (struck (c .args .entry .line)) (self .marked) in
     let marked =
-        c .push-reserved-2 .ensures .items ∙ ap (λ l. l ++ (true ∷ [])) struck-marks
-        ∙ standing-push (self .people) es (c .args .entry) (self .ordered) (c .pre .fits) ∙ ap standing (sym (pushed .items))
+    c .push-reserved-2 .ensures .items ∙ ap (λ l. l ++ (true ∷ [])) struck-marks
+    ∙ standing-push (self .people) es (c .args .entry) (self .ordered) (c .pre .fits) ∙ ap standing (sym (pushed .items))
     in
     (self .crew, ((omega arith, omega arith), ((omega (arith, self .reserved), omega (arith, self .reserved)), (ordered, (marked, tt)))))
