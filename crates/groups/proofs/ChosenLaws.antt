@@ -1,4 +1,4 @@
--- The chosen set is the least group with which the greatest number is reached. Assumes nothing.
+-- The chosen set is the least group with which the greatest number is reached.
 use mathlib.Core.Bool.{Bool, _&&_, false, true}
 use mathlib.Core.List.{List}
 use mathlib.Core.Path.{_≡_}

@@ -1,4 +1,4 @@
--- The recurrence of the count as equations, case by case. Assumes nothing.
+-- The recurrence of the count as equations, case by case.
 use mathlib.Core.Bool.{cond, false, true}
 use mathlib.Core.List.{List}
 use mathlib.Core.Logic.{_⊎_, inl, inr}

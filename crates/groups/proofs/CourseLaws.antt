@@ -1,4 +1,4 @@
--- The list of a recurrence's values holds each value at its place. Assumes nothing.
+-- The list of a recurrence's values holds each value at its place.
 use mathlib.Core.List.{List, [], _∷_}
 use mathlib.Core.Logic.{inl, inr}
 use mathlib.Core.Path.{_∙_, _≡_, refl}

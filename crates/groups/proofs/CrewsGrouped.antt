@@ -1,4 +1,4 @@
--- The example crews have their groups, by computing. Assumes nothing.
+-- The example crews have their groups, by computing.
 use mathlib.Core.Path.{refl}
 use lib.Count.{trailingZeros}
 use Rattle.groups.specs.Counts.{count, counted, counts, most}

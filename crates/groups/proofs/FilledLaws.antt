@@ -1,4 +1,4 @@
--- A table that is written from its beginning on. Assumes nothing.
+-- A table that is written from its beginning on.
 use mathlib.Core.List.{List}
 use mathlib.Core.Logic.{_≢_, inl, inr}
 use mathlib.Core.Path.{_∙_, _≡_, ap, refl, sym}

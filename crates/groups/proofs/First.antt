@@ -1,4 +1,4 @@
--- The first number that passes a test. Assumes nothing.
+-- The first number that passes a test.
 use mathlib.Core.Bool.{Bool, false, true}
 use mathlib.Core.Logic.{inl, inr}
 use mathlib.Core.Path.{_≡_, refl}

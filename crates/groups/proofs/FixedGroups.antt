@@ -1,4 +1,4 @@
--- The fixed groups of all people part those who are open. Assumes nothing.
+-- The fixed groups of all people part those who are open.
 use mathlib.Core.Bool.{Bool, _&&_, not}
 use mathlib.Core.List.{List, [], _++_}
 use mathlib.Core.Path.{_∙_, _≡_, ap, sym}

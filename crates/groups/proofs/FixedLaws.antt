@@ -1,4 +1,4 @@
--- The fixed groups by their recurrence, and how they part a set of open people. Assumes nothing.
+-- The fixed groups by their recurrence, and how they part a set of open people.
 use mathlib.Core.Bool.{Bool, _&&_, false, not, true}
 use mathlib.Core.List.{List, [], _++_, _∷_, append-assoc}
 use mathlib.Core.Logic.{inl, inr}

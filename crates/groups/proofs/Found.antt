@@ -1,4 +1,4 @@
--- A test over the numbers below n passes somewhere or nowhere. Assumes nothing.
+-- A test over the numbers below n passes somewhere or nowhere.
 use mathlib.Core.Bool.{Bool, false, true}
 use mathlib.Core.Logic.{_⊎_, inl, inr}
 use mathlib.Core.Path.{_≡_}

@@ -1,4 +1,4 @@
--- The count is the greatest number of groups. Assumes nothing.
+-- The count is the greatest number of groups.
 use mathlib.Core.Bool.{true}
 use mathlib.Core.Logic.{inl, inr}
 use mathlib.Core.Path.{_≡_, refl}

@@ -1,25 +1,25 @@
--- The count of all people is the greatest number of groups of their balances. Assumes nothing.
-use mathlib.Core.Bool.{Bool}
+-- The count of all people is the greatest number of groups of their balances.
 use mathlib.Core.Logic.{_⊎_, inl, inr}
-use mathlib.Core.Path.{_∙_, _≡_, refl, sym}
+use mathlib.Core.Path.{_∙_, _≡_, sym}
 use Prim.Native.Nat.{_<_, ℕ}
 use native.Mathlib.Omega.{arith}
-use borrow.Author.Differences.{down, up}
 use lib.Dec.{eqb}
-use lib.IntN.{negsuc, pos, ℤ}
+use lib.IntN.{pos, ℤ}
 use Rattle.std.proofs.shelf.Signed.{ints}
 use Rattle.std.proofs.shelf.Tests.{cases-lt}
 use Rattle.groups.proofs.FromGroups.{from-groups}
 use Rattle.groups.proofs.Greatest.{at-most}
-use Rattle.groups.proofs.SetLaws.{everyone-below, everyone-in}
-use Rattle.groups.proofs.Sides.{sides-even, sides-zero}
-use Rattle.groups.proofs.SumLaws.{span-same}
+use Rattle.groups.proofs.OpenLaws.{everyone-sum}
+use Rattle.groups.proofs.SetLaws.{everyone-below}
+use Rattle.balances.proofs.Signs.{difference-sides}
+use Rattle.balances.proofs.SpansZ.{spanZ-less}
+use Rattle.shares.proofs.Spans.{span-same}
 use Rattle.groups.proofs.ToGroups.{groups-there}
 use Rattle.balances.specs.Even.{Balances, Even}
 use Rattle.groups.specs.Groups.{Groups}
 use Rattle.shares.specs.Bill.{pick}
-use Rattle.groups.specs.Sets.{everyone, isIn}
-use Rattle.balances.specs.Signed.{signed, credit, debt}
+use Rattle.groups.specs.Sets.{everyone}
+use Rattle.balances.specs.Signed.{credit, debt}
 use Rattle.groups.specs.Signs.{difference, sumOf}
 use Rattle.groups.specs.Theorems.{Greatest-groups, Greatest-signed}
 
@@ -41,28 +41,20 @@ like n h o d o′ d′ same-owes same-owed g =
       some = λ j l. let w = g .some j l in (w .0, w .1, w .2, omega (arith, same-owes (w .0) (w .1), w .3));
     }
 
--- a balance on one side alone is read back from its signed number
-one-zero : (z : ℤ) → (up z ≡ 0) ⊎ (down z ≡ 0)
-one-zero (pos n) = inr refl
-one-zero (negsuc n) = inl refl
-
 -- who owes nothing or is owed nothing
 one-side : (b : Balances) → Even b → (i : ℕ) → i < b .people → (b .owes i ≡ 0) ⊎ (b .owed i ≡ 0)
 one-side b e i l = elim (cases-lt 0 (b .owes i)) [ inl o ↦ inr (e .one-side i l o) | inr o ↦ inl (omega arith) ]
 
+-- balances are read back from their signed numbers
 signed-owes : (b : Balances) → Even b → (i : ℕ) → i < b .people → debt (difference b i) ≡ b .owes i
-signed-owes b e i l = omega (arith, ints, one-side b e i l, one-zero (difference b i))
+signed-owes b e i l = omega (arith, one-side b e i l, difference-sides (b .owed i) (b .owes i))
 
 signed-owed : (b : Balances) → Even b → (i : ℕ) → i < b .people → credit (difference b i) ≡ b .owed i
-signed-owed b e i l = omega (arith, ints, one-side b e i l, one-zero (difference b i))
+signed-owed b e i l = omega (arith, one-side b e i l, difference-sides (b .owed i) (b .owes i))
 
 signed-total : (b : Balances) → Even b → sumOf (difference b) (b .people) (everyone (b .people)) ≡ pos 0
-unfolding sumOf
 signed-total b e =
-    let all : ℕ → Bool = isIn (everyone (b .people)) in
-    let owes = span-same (λ i. pick (all i) (debt (difference b i)) 0) (b .owes) (b .people) (λ i l. rw (everyone-in (b .people) i l) (signed-owes b e i l)) in
-    let owed = span-same (λ i. pick (all i) (credit (difference b i)) 0) (b .owed) (b .people) (λ i l. rw (everyone-in (b .people) i l) (signed-owed b e i l)) in
-    sides-zero all (difference b) (b .people) (owes ∙ e .sum ∙ sym owed)
+    everyone-sum (difference b) (b .people) ∙ spanZ-less (b .owed) (b .owes) (b .people) ∙ omega (arith, ints, e .sum)
 
 pub greatest-groups : Greatest-groups
 greatest-groups b e =
@@ -72,18 +64,3 @@ greatest-groups b e =
       λ h g. all .0 h (like n h (b .owes) (b .owed) (λ i. debt (f i)) (λ i. credit (f i)) (λ i l. sym (signed-owes b e i l)) (λ i l. sym (signed-owed b e i l)) g),
       like n _ (λ i. debt (f i)) (λ i. credit (f i)) (b .owes) (b .owed) (signed-owes b e) (signed-owed b e) (all .1),
     )
-
--- signed balances that sum to 0 come out even, and are read back from what is owed and due
-pub signed-even : (f : ℕ → ℤ) (n : ℕ) → sumOf f n (everyone n) ≡ pos 0 → Even (signed n f)
-unfolding sumOf
-signed-even f n total =
-    let all : ℕ → Bool = isIn (everyone n) in
-    let owes = span-same (λ i. pick (all i) (debt (f i)) 0) (λ i. debt (f i)) n (λ i l. rw (everyone-in n i l)) in
-    let owed = span-same (λ i. pick (all i) (credit (f i)) 0) (λ i. credit (f i)) n (λ i l. rw (everyone-in n i l)) in
-    record {
-      one-side = λ i l o. omega (arith, one-zero (f i));
-      sum = sym owes ∙ sides-even all f n total ∙ owed;
-    }
-
-pub signed-back : (f : ℕ → ℤ) (n i : ℕ) → difference (signed n f) i ≡ f i
-signed-back f n i = omega (arith, ints)

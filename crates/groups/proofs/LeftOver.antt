@@ -1,4 +1,4 @@
--- The people who are in no group, as a set: with them the greatest number of groups is reached. Assumes nothing.
+-- The people who are in no group, as a set: with them the greatest number of groups is reached.
 use mathlib.Core.Bool.{Bool, _&&_, false, not, true}
 use mathlib.Core.Path.{_∙_, _≡_, sym}
 use Prim.Native.Nat.{_+_, _-_, _<_, _^_, suc, ℕ}

@@ -1,4 +1,4 @@
--- The set of those who are open has the sum and the count of all. Assumes nothing.
+-- The set of those who are open has the sum and the count of all.
 use mathlib.Core.Bool.{_&&_, not, true}
 use mathlib.Core.Logic.{_⊎_, inl, inr}
 use mathlib.Core.Path.{_∙_, _≡_, sym}
@@ -9,7 +9,8 @@ use Rattle.std.proofs.shelf.Tests.{and-from, and-parts, cases-lt, not-from-fals
 use Rattle.groups.proofs.Greatest.{at-most, reached}
 use Rattle.groups.proofs.Partings.{moved}
 use Rattle.groups.proofs.SetLaws.{everyone-below, everyone-in, not-in, set-below, set-in}
-use Rattle.groups.proofs.SumLaws.{pick-none, sum-same}
+use Rattle.groups.proofs.SumLaws.{pick-none}
+use Rattle.balances.proofs.SpansZ.{spanZ-same}
 use Rattle.groups.proofs.ZeroLaws.{cases-zero, not-zero, zero-no}
 use Rattle.groups.specs.Counts.{count}
 use Rattle.groups.specs.Courses.{at}
@@ -38,7 +39,7 @@ open-all f n i h =
 pub open-sum : (f : ℕ → ℤ) (n : ℕ) → sumOf f n (openOf f n) ≡ sumOf f n (everyone n)
 unfolding sumOf
 open-sum f n =
-    sum-same (only (isIn (openOf f n)) f) (only (isIn (everyone n)) f) n
+    spanZ-same (only (isIn (openOf f n)) f) (only (isIn (everyone n)) f) n
     (λ i l. rw (open-in f n i, everyone-in n i l) (at (f i) (cases-zero (f i))))
   where
     at : (z : ℤ) → (z ≡ pos 0) ⊎ (z ≡ pos 0 → ⊥) → pick (true && not (isZero z)) z (pos 0) ≡ z
@@ -56,4 +57,4 @@ open-count f n =
 -- the sum over everyone is the sum over the first n
 pub everyone-sum : (f : ℕ → ℤ) (n : ℕ) → sumOf f n (everyone n) ≡ spanZ f n
 unfolding sumOf
-everyone-sum f n = sum-same (only (isIn (everyone n)) f) f n (λ i l. rw (everyone-in n i l))
+everyone-sum f n = spanZ-same (only (isIn (everyone n)) f) f n (λ i l. rw (everyone-in n i l))

@@ -1,4 +1,4 @@
--- How partings of a set and of smaller sets go with each other. Assumes nothing.
+-- How partings of a set and of smaller sets go with each other.
 use mathlib.Core.Bool.{Bool, _&&_, false, not, true}
 use mathlib.Core.Logic.{_⊎_, inl, inr}
 use mathlib.Core.Path.{_∙_, _≡_, ap, refl, sym}
@@ -11,7 +11,8 @@ use Rattle.std.proofs.shelf.Tests.{both-ways, cases-lt}
 use Rattle.std.proofs.shelf.Ways.{tells}
 use Rattle.groups.proofs.Found.{found}
 use Rattle.groups.proofs.SetLaws.{in-below, out-other}
-use Rattle.groups.proofs.SumLaws.{groups-zero, pick-none, sum-add, sum-same}
+use Rattle.groups.proofs.SumLaws.{groups-zero, pick-none, sum-add}
+use Rattle.balances.proofs.SpansZ.{spanZ-same}
 use Rattle.groups.proofs.ZeroLaws.{cases-zero, not-zero, zero-no}
 use Rattle.groups.specs.Parting.{Parted}
 use Rattle.shares.specs.Bill.{pick}
@@ -76,7 +77,7 @@ freed f n s g k p =
         «open» = λ i h. p .open i (relabel-kept a g (p .group i) le h);
         some = λ j l. let o = p .some (old j) (old-below j l) in (o .0, relabel-some a g (p .group (o .0)) j l (o .1));
         even = λ j l.
-            sum-same (only (λ i. eqb (relabel a g (p .group i)) j) f) (only (λ i. eqb (p .group i) (old j)) f) n
+            spanZ-same (only (λ i. eqb (relabel a g (p .group i)) j) f) (only (λ i. eqb (p .group i) (old j)) f) n
             (λ i m. rw (relabel-same a g (p .group i) j le l))
             ∙ p .even (old j) (old-below j l);
       },
@@ -96,7 +97,7 @@ unfolding sumOf
 left-over f n s g p =
     elim (found (λ i. isIn s i && (not (isZero (f i)) && leb g (p .group i))) n) [
       | inl h ↦ inr (h .0, h .1, grind (arith, tells), grind (arith, tells))
-      | inr all ↦ inl (sum-same (only (isIn s) f) (only (λ i. ltb (p .group i) g) f) n
+      | inr all ↦ inl (spanZ-same (only (isIn s) f) (only (λ i. ltb (p .group i) g) f) n
           (λ i l. covered (isIn s i) (p .group i) g (f i) (p .inside i) (all i l))
           ∙ groups-zero f n g (p .group) (p .even) g (omega arith))
     ]
@@ -154,7 +155,7 @@ one-more f n s g k small total p in-it is-open out =
         | inr m ↦ (k, others-last _ g _ _ out in-it (zero-no (f k) is-open) ∙ omega arith)
       ];
       even = λ j h. elim (cases-lt j g) [
-        | inl l ↦ sum-same (only (λ i. eqb (label i) j) f) (only (λ i. eqb (p .group i) j) f) n
+        | inl l ↦ spanZ-same (only (λ i. eqb (label i) j) f) (only (λ i. eqb (p .group i) j) f) n
             (λ i m. rw (others-same (p .group i) g j (isIn s i) (isZero (f i)) l)) ∙ p .even j l
         | inr m ↦
             let e : j ≡ g = omega arith in

@@ -1,4 +1,4 @@
--- The search for the chosen set, over the rests that it leaves in falling order. Assumes nothing.
+-- The search for the chosen set, over the rests that it leaves in falling order.
 use mathlib.Core.Bool.{false, not, true}
 use mathlib.Core.List.{List}
 use mathlib.Core.Logic.{inl, inr}

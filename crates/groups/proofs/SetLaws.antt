@@ -1,4 +1,4 @@
--- Laws of sets of people as bits. Assumes nothing.
+-- Laws of sets of people as bits.
 use mathlib.Core.Bool.{Bool, _&&_, false, not, true}
 use mathlib.Core.Logic.{inl, inr}
 use mathlib.Core.Path.{_∙_, _≡_, ap, refl, sym}

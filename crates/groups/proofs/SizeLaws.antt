@@ -1,4 +1,4 @@
--- How many people a set has, and that there are no more groups than people. Assumes nothing.
+-- How many people a set has, and that there are no more groups than people.
 use mathlib.Core.Bool.{Bool, _&&_, not, true}
 use mathlib.Core.Logic.{inl, inr}
 use mathlib.Core.Path.{_≡_, refl, sym}
@@ -10,7 +10,8 @@ use Rattle.std.proofs.shelf.Tests.{cases-eq, cases-lt, eq-eqb, ne-eqb}
 use Rattle.groups.proofs.CountLaws.{count-empty, count-even, count-reached, count-sum}
 use Rattle.groups.proofs.SetLaws.{in-below, minus-in, out-gone, out-less, out-other, part-in, smallest-in}
 use Rattle.groups.proofs.Smaller.{by-smaller}
-use Rattle.groups.proofs.SumLaws.{span-add, span-at, span-zero}
+use Rattle.groups.proofs.SumLaws.{span-two}
+use Rattle.shares.proofs.Spans.{at-most-span, span-at}
 use Rattle.groups.proofs.ZeroLaws.{cases-zero}
 use Rattle.groups.specs.Counts.{count}
 use Rattle.shares.specs.Bill.{pick}
@@ -18,33 +19,19 @@ use Rattle.groups.specs.Sets.{isIn, isPart, size, smallest, without}
 use Rattle.groups.specs.Signs.{sumOf}
 use Rattle.shares.specs.Span.{span}
 
-one-person : (n i : ℕ) → i < n → span (λ k. pick (eqb k i) 1 0) n ≡ 1
-unfolding span
-one-person zero i h = absurd (omega arith)
-one-person (suc n) i h =
-    elim (cases-eq i n) [
-      | inl q ↦
-          let z = span-zero (λ k. pick (eqb k i) 1 0) n (λ k l. rw (ne-eqb k i (omega arith))) in
-          let o : pick {A = ℕ} (eqb n i) 1 0 ≡ 1 = rw (eq-eqb n i (sym q)) in
-          omega arith
-      | inr ne ↦
-          let o : pick {A = ℕ} (eqb n i) 1 0 ≡ 0 = rw (ne-eqb n i (omega arith)) in
-          omega (arith, one-person n i (omega arith))
-    ]
-
-moved-out : (s i k : ℕ) → isIn s i ≡ true → pick {A = ℕ} (isIn s k) 1 0 ≡ pick (isIn (without s i) k) 1 0 + pick (eqb k i) 1 0
+moved-out : (s i k : ℕ) → isIn s i ≡ true → pick {A = ℕ} (isIn s k) 1 0 ≡ pick (isIn (without s i) k) 1 0 + pick (eqb i k) 1 0
 moved-out s i k e =
     elim (cases-eq k i) [
       | inl q ↦ rw (q, e, out-gone s i e, eq-eqb i i refl)
-      | inr ne ↦ rw (out-other s i k e ne, ne-eqb k i ne) (omega arith)
+      | inr ne ↦ rw (out-other s i k e ne, ne-eqb i k (λ q. ne (sym q))) (omega arith)
     ]
 
 pub size-out : (n s i : ℕ) → i < n → isIn s i ≡ true → size n (without s i) + 1 ≡ size n s
 unfolding size
 size-out n s i l e =
-    let two = span-add (λ k. pick {A = ℕ} (isIn s k) 1 0) (λ k. pick (isIn (without s i) k) 1 0) (λ k. pick (eqb k i) 1 0) n
+    let two = span-two (λ k. pick {A = ℕ} (isIn s k) 1 0) (λ k. pick (isIn (without s i) k) 1 0) (λ k. pick (eqb i k) 1 0) n
     (λ k m. moved-out s i k e) in
-    omega (arith, one-person n i l)
+    omega (arith, span-at i 1 n l)
 
 pub size-le : (n s : ℕ) → size n s ≤ n
 unfolding size span
@@ -79,7 +66,7 @@ count-size f n = by-smaller (λ s. s < 2 ^ n → count f n s ≤ size n s) (size
 pub size-minus : (n t s : ℕ) → isPart t s ≡ true → size n s ≡ size n t + size n (s - t)
 unfolding size
 size-minus n t s p =
-    span-add (λ i. pick {A = ℕ} (isIn s i) 1 0) (λ i. pick (isIn t i) 1 0) (λ i. pick (isIn (s - t) i) 1 0) n
+    span-two (λ i. pick {A = ℕ} (isIn s i) 1 0) (λ i. pick (isIn t i) 1 0) (λ i. pick (isIn (s - t) i) 1 0) n
     (λ i l. rw (minus-in t s i p) (two (isIn t i) (isIn s i) (part-in t s i p)))
   where
     two : (a b : Bool) → (a ≡ true → b ≡ true) → pick {A = ℕ} b 1 0 ≡ pick a 1 0 + pick (b && not a) 1 0
@@ -87,4 +74,4 @@ size-minus n t s p =
 
 pub size-some : (n s i : ℕ) → i < n → isIn s i ≡ true → 0 < size n s
 unfolding size
-size-some n s i l e = let one : pick {A = ℕ} (isIn s i) 1 0 ≡ 1 = rw e in omega (arith, span-at (λ i. pick {A = ℕ} (isIn s i) 1 0) n i l)
+size-some n s i l e = let one : pick {A = ℕ} (isIn s i) 1 0 ≡ 1 = rw e in omega (arith, at-most-span (λ i. pick {A = ℕ} (isIn s i) 1 0) n i l)

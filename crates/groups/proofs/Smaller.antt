@@ -1,4 +1,4 @@
--- Induction over all smaller numbers. Assumes nothing.
+-- Induction over all smaller numbers.
 use Prim.Native.Nat.{_<_, suc, zero, ℕ}
 use native.Mathlib.Omega.{arith}
 

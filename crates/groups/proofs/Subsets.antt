@@ -1,4 +1,4 @@
--- The parts of a set in falling order: the part before r is `(r - 1) & m`. Assumes nothing.
+-- The parts of a set in falling order: the part before r is `(r - 1) & m`.
 use mathlib.Core.Bool.{false, not, true}
 use mathlib.Core.Logic.{inl, inr}
 use mathlib.Core.Path.{_∙_, _≡_, ap, sym}

@@ -1,10 +1,9 @@
--- From a parting of signed balances that come out even, groups of balances in two whole numbers. Assumes nothing.
+-- From a parting of signed balances that come out even, groups of balances in two whole numbers.
 use mathlib.Core.Bool.{Bool, true}
 use mathlib.Core.Logic.{inl, inr}
 use mathlib.Core.Path.{_∙_, _≡_, ap}
 use Prim.Native.Nat.{_<_, suc, zero, ℕ}
 use native.Mathlib.Omega.{arith}
-use borrow.Author.Differences.{down, up}
 use lib.Dec.{eqb, leb, ltb}
 use lib.IntN.{_+ℤ_, pos, ℤ}
 use Rattle.std.proofs.shelf.Signed.{ints}
@@ -14,7 +13,8 @@ use Rattle.groups.proofs.Greatest.{at-most, reached}
 use Rattle.groups.proofs.Partings.{no-groups, one-more}
 use Rattle.groups.proofs.SetLaws.{everyone-below, everyone-in}
 use Rattle.groups.proofs.Sides.{sides-even, somebody-owes}
-use Rattle.groups.proofs.SumLaws.{groups-zero, sum-add, sum-same}
+use Rattle.groups.proofs.SumLaws.{groups-zero, sum-add}
+use Rattle.balances.proofs.SpansZ.{spanZ-same}
 use Rattle.groups.proofs.ZeroLaws.{cases-zero}
 use Rattle.groups.specs.Counts.{count}
 use Rattle.groups.specs.Groups.{Groups}
@@ -59,7 +59,7 @@ joined-even f n g total p zero l =
     (λ i m. joined-first g (p .group i) (f i) l) in
     omega (arith, ints, all, first, total, p .even 0 l, groups-zero f n g (p .group) (p .even) g (omega arith))
 joined-even f n g total p (suc j) l =
-    sum-same (only (λ i. eqb (joined g (p .group i)) (suc j)) f) (only (λ i. eqb (p .group i) (suc j)) f) n
+    spanZ-same (only (λ i. eqb (joined g (p .group i)) (suc j)) f) (only (λ i. eqb (p .group i) (suc j)) f) n
     (λ i m. rw (joined-same g (p .group i) (suc j) (omega arith) l))
     ∙ p .even (suc j) l
 
@@ -94,7 +94,7 @@ empty-groups : (f : ℕ → ℤ) (n : ℕ) → ((i : ℕ) → i < n → f i ≡ 
 empty-groups f n all =
     record {
       group = λ i. 0;
-      below = λ i l o. omega (arith, ap up (all i l), ap down (all i l));
+      below = λ i l o. omega (arith, ap credit (all i l), ap debt (all i l));
       even = λ j l. absurd (omega arith);
       some = λ j l. absurd (omega arith);
     }

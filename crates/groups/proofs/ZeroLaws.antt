@@ -1,4 +1,4 @@
--- Whether a balance is even: the test and what it says. Assumes nothing.
+-- Whether a balance is even: the test and what it says.
 use mathlib.Core.Bool.{Bool, false, true}
 use mathlib.Core.Logic.{_⊎_, inl, inr}
 use mathlib.Core.Path.{_∙_, _≡_, ap, refl, sym}

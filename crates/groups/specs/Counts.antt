@@ -1,4 +1,4 @@
--- How many groups a set of people has, by recurrence over smaller sets: one step for each person of each set. Assumes nothing.
+-- How many groups a set of people has, by recurrence over smaller sets: one step for each person of each set.
 use mathlib.Core.Bool.{cond}
 use mathlib.Core.List.{List}
 use Prim.Native.Nat.{_+_, max, suc, zero, ℕ}

@@ -1,4 +1,4 @@
--- A recurrence in which each value is made from the list of all values before it. Assumes nothing.
+-- A recurrence in which each value is made from the list of all values before it.
 use mathlib.Core.List.{List, [], _++_, _∷_}
 use Prim.Native.Nat.{suc, zero, ℕ}
 

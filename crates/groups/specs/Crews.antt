@@ -1,4 +1,4 @@
--- Crews by a list of their balances, and some with their groups. Assumes nothing.
+-- Crews by a list of their balances, and some with their groups.
 use mathlib.Core.List.{List, [], _∷_}
 use mathlib.Core.Path.{_≡_}
 use Prim.Native.Nat.{ℕ}

@@ -1,4 +1,4 @@
--- A table of which a part has been written. Assumes nothing.
+-- A table of which a part has been written.
 use mathlib.Core.List.{List}
 use mathlib.Core.Path.{_≡_}
 use Prim.Native.Nat.{_<_, _≤_, ℕ}

@@ -1,4 +1,4 @@
--- The groups of a crew, fixed by rule: the smallest person left goes with the least set that still reaches the greatest number. Assumes nothing.
+-- The groups of a crew, fixed by rule: the smallest person left goes with the least set that still reaches the greatest number.
 use mathlib.Core.Bool.{Bool, _&&_, cond, not}
 use mathlib.Core.List.{List, [], _∷_}
 use mathlib.Core.Path.{_≡_}

@@ -1,4 +1,4 @@
--- Groups that come out even, of balances. Assumes nothing.
+-- Groups that come out even, of balances.
 use mathlib.Core.Path.{_≡_}
 use Prim.Native.Nat.{_+_, _<_, ℕ}
 use lib.Dec.{eqb, ltb}

@@ -1,4 +1,4 @@
--- What grouping people makes. Assumes nothing.
+-- What grouping people makes.
 use mathlib.Core.List.{List}
 use mathlib.Core.Path.{_≡_}
 use Prim.Native.Nat.{ℕ}

@@ -1,4 +1,4 @@
--- What the count means: so many disjoint groups of open people inside a set, each of which comes out even. Assumes nothing.
+-- What the count means: so many disjoint groups of open people inside a set, each of which comes out even.
 use mathlib.Core.Bool.{true}
 use mathlib.Core.Path.{_≡_}
 use Prim.Native.Nat.{_<_, ℕ}

@@ -1,4 +1,4 @@
--- Sets of people as the bits of a number: person i stands for 2 ^ i. Assumes nothing.
+-- Sets of people as the bits of a number: person i stands for 2 ^ i.
 use mathlib.Core.Bool.{Bool}
 use Prim.Native.Nat.{_%_, _-_, _/_, _^_, ℕ}
 use lib.Bits.{bitAnd}

@@ -1,4 +1,4 @@
--- Balances as signed numbers: below 0 a person owes, above 0 it is owed, at 0 it is even. Assumes nothing.
+-- Balances as signed numbers: below 0 a person owes, above 0 it is owed, at 0 it is even.
 use mathlib.Core.Bool.{Bool, not, true}
 use mathlib.Core.List.{List}
 use mathlib.Core.Path.{_≡_}

@@ -1,4 +1,4 @@
--- The tables of the sums and the counts of all sets of people whose balances are in a list. Assumes nothing.
+-- The tables of the sums and the counts of all sets of people whose balances are in a list.
 use mathlib.Core.List.{List}
 use Prim.Native.Nat.{_^_, ℕ}
 use lib.IntN.{ℤ}

@@ -1,4 +1,4 @@
--- What is proved of groups, over any number of people. Assumes nothing.
+-- What is proved of groups, over any number of people.
 use mathlib.Core.Path.{_≡_}
 use Prim.Native.Nat.{_<_, _^_, _≤_, ℕ}
 use lib.IntN.{pos, ℤ}
