@@ -3,7 +3,6 @@ pub mod Counts
 pub mod Evens
 pub mod FirstFar
 pub mod Holds
-pub mod Marks
 pub mod Returns
 pub mod Signs
 pub mod SpansZ
