@@ -20,9 +20,10 @@ use Rattle.groups.proofs.Smaller.{by-smaller}
 use Rattle.groups.proofs.SumLaws.{sum-add}
 use Rattle.groups.proofs.ZeroLaws.{zero-no}
 use Rattle.groups.specs.Courses.{at, upTo}
-use Rattle.groups.specs.Fixed.{Parts, chosen, firstOf, fixedBy, fixing, holding, reaches}
+use Rattle.groups.specs.Fixed.{Parts, chosen, firstOf, fixedBy, fixing, reaches}
 use Rattle.shares.specs.Bill.{pick}
 use Rattle.groups.specs.Sets.{isIn, isPart, smallest}
+use Rattle.groups.specs.SetsPart.{times}
 use Rattle.groups.specs.Signs.{AllOpen, isZero, sumOf, only}
 
 -- a sum over a set is that over a part and that over the rest
@@ -58,7 +59,7 @@ fixed-more f n cs s some =
     ∙ ap (λ ts. chosen f n cs s ∷ ts) (upTo-at (fixing f n cs) s (s - chosen f n cs s) [] (omega (arith, chosen-some f n cs s)))
 
 parts-none : (f : ℕ → ℤ) (n : ℕ) → Parts f n 0 []
-unfolding holding
+unfolding times
 parts-none f n =
     record { once = λ i. rw (in-empty i); some = λ k l. absurd (omega arith); even = λ k l. absurd (omega arith); as-many = sym (count-empty f n) }
 
@@ -66,7 +67,7 @@ once-at : (a b e : Bool) → (a ≡ true → b ≡ true) → (a ≡ true → e �
 once-at a b e ins op = grind arith
 
 parts-more : (f : ℕ → ℤ) (n s t : ℕ) (ts : List ℕ) → AllOpen f s → Chosen f n s t → Parts f n (s - t) ts → Parts f n s (t ∷ ts)
-unfolding holding
+unfolding times
 parts-more f n s t ts all c p =
     record {
       once = λ i.

@@ -11,13 +11,14 @@ pub mod FromGroups
 pub mod Greatest
 pub mod GreatestGroups
 pub mod LeftOver
+pub mod OfBalances
 pub mod OpenLaws
+pub mod PartedSets
 pub mod Partings
 pub mod Passed
 pub mod SetLaws
 pub mod Sides
 pub mod SizeLaws
-pub mod Sizes
 pub mod Smaller
 pub mod Subsets
 pub mod SumLaws

@@ -1,6 +1,6 @@
 -- The groups of a crew, fixed by rule: the smallest person left goes with the least set that still reaches the greatest number.
 use mathlib.Core.Bool.{Bool, _&&_, cond, not}
-use mathlib.Core.List.{List, [], _∷_}
+use mathlib.Core.List.{List, [], _∷_, map}
 use mathlib.Core.Path.{_≡_}
 use Prim.Native.Nat.{_+_, _-_, _<_, _^_, suc, zero, ℕ}
 use lib.Dec.{eqb, ltb}
@@ -9,7 +9,8 @@ use lib.ListN.{getD, length}
 use Rattle.groups.specs.Counts.{count, counts}
 use Rattle.groups.specs.Courses.{at}
 use Rattle.shares.specs.Bill.{pick}
-use Rattle.groups.specs.Sets.{isIn, isPart, size, smallest}
+use Rattle.groups.specs.Sets.{isIn, isPart, smallest}
+use Rattle.groups.specs.SetsPart.{times}
 use Rattle.groups.specs.Signs.{isZero, openOf, sumOf}
 
 -- the first number below k that passes, or k
@@ -38,14 +39,8 @@ unfoldable pub fixedGroups : (ℕ → ℤ) → ℕ → List ℕ
 fixedGroups f n = fixedBy f n (counts f n (2 ^ n)) (openOf f n)
 
 -- how many of the sets have person i
-unfoldable pub holding : List ℕ → ℕ → ℕ
-holding [] i = 0
-holding (t ∷ ts) i = pick (isIn t i) 1 0 + holding ts i
-
--- how many people the sets have together, of n
-unfoldable pub sizes : ℕ → List ℕ → ℕ
-sizes n [] = 0
-sizes n (t ∷ ts) = size n t + sizes n ts
+abbrev pub holding : List ℕ → ℕ → ℕ
+holding ts i = times (map isIn ts) 1 i
 
 -- sets that part the open people of s: each of them is in exactly one and nobody else in any, none is empty, each sums to 0, and there are as many as can be
 pub record Parts (f : ℕ → ℤ) (n s : ℕ) (ts : List ℕ) : Type 0 where

@@ -7,6 +7,8 @@ pub mod Groups
 pub mod Made
 pub mod Parting
 pub mod Sets
+pub mod SetsPart
+pub mod Shorts
 pub mod Signs
 pub mod Tables
 pub mod Theorems

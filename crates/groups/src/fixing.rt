@@ -10,7 +10,7 @@ ghost use Rattle.groups.specs.Made.{Made};
 ghost use Rattle.groups.specs.Sets.{everyone, isIn, isPart, size, smallest};
 ghost use Rattle.balances.specs.Signed.{at-person};
 ghost use Rattle.groups.specs.Signs.{AllOpen, Moderate, openOf};
-ghost use Rattle.groups.specs.Tables.{HasCounts, HasSums, setSum};
+ghost use Rattle.groups.specs.Tables.{HasCounts, HasSums, Kept, setSum};
 ghost use Rattle.std.specs.Results.{Cases};
 ghost use Rattle.std.specs.Of.Vec.{vec-cap, vec-items, vec-len};
 use crate::sets::without_lowest;
@@ -92,7 +92,7 @@ pub fn fix(balances: &[i64], sums: &[i64], counts: &[u8], left: u32, groups: &mu
 }
 
 // The groups of people who are even together, and both tables filled; memory for the groups is reserved before the first write.
-pub fn group_people(
+pub fn group_numbers(
     heap: Global,
     balances: &[i64],
     sums: &mut [i64],
@@ -104,8 +104,9 @@ pub fn group_people(
     requires room_sums { ⌜ 2 ^ length (now balances) ≤ length (now sums) ⌝ }
     requires room_counts { ⌜ 2 ^ length (now balances) ≤ length (now counts) ⌝ }
     ensures { λ r. ⌜ Cases r
-        (λ v. Made (now (balances .entry)) (now (sums .entry)) (now (sums .exit)) (now (counts .entry)) (now (counts .exit)) (vec-items v))
-        (λ _. (now (sums .exit) ≡ now (sums .entry)) × (now (counts .exit) ≡ now (counts .entry))) ⌝ }
+        (λ v. Made (at-person (now (balances .entry))) (length (now (balances .entry)))
+        (now (sums .entry)) (now (sums .exit)) (now (counts .entry)) (now (counts .exit)) (vec-items v))
+        (λ _. Kept (now (sums .entry)) (now (sums .exit)) (now (counts .entry)) (now (counts .exit))) ⌝ }
 {
     let mut groups = Vec::with_capacity(heap, balances.len())?;
     fill(balances, sums, counts);

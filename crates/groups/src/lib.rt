@@ -1,10 +1,14 @@
 // Groups of people that come out even: how many there can be, and which they are by rule.
+pub mod filling;
 mod fixing;
+pub mod grouping;
 mod sets;
+pub mod short;
 mod tables;
+pub mod ungrouped;
 
 ghost use Rattle.groups.specs.Crews.{Crews-grouped};
-ghost use Rattle.groups.specs.Theorems.{Fixed-groups, Greatest-count, Greatest-groups, Greatest-signed};
+ghost use Rattle.groups.specs.Theorems.{Fixed-groups, Fixed-part, Greatest-count, Greatest-groups, Greatest-signed};
 
 // The count of a set is the greatest number of disjoint groups inside it.
 pub fn greatest_count()
@@ -24,6 +28,11 @@ pub fn greatest_groups()
 // The fixed groups part the open people into as many groups as can be.
 pub fn fixed_groups()
     ensures { λ _. ⌜ Fixed-groups ⌝ }
+{}
+
+// As tests on people they part the balances' open people, and no parting has more.
+pub fn fixed_part()
+    ensures { λ _. ⌜ Fixed-part ⌝ }
 {}
 
 // The example crews have the groups that are written down for them.

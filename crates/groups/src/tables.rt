@@ -5,7 +5,7 @@ ghost use mathlib.Core.Path.{_≡_};
 ghost use Rattle.groups.specs.Counts.{counted as countedFrom, most};
 ghost use Rattle.balances.specs.Signed.{at-person};
 ghost use Rattle.groups.specs.Signs.{isZero, Moderate};
-ghost use Rattle.groups.specs.Tables.{CountsFilled, setSum, SumsFilled};
+ghost use Rattle.groups.specs.Tables.{Written, setSum};
 use crate::sets::contains;
 use crate::sets::lowest;
 use crate::sets::take_out;
@@ -79,8 +79,8 @@ pub fn fill(balances: &[i64], sums: &mut [i64], counts: &mut [u8])
     requires moderate { ⌜ Moderate (now balances) ⌝ }
     requires sums_room { ⌜ 2 ^ length (now balances) ≤ length (now sums) ⌝ }
     requires counts_room { ⌜ 2 ^ length (now balances) ≤ length (now counts) ⌝ }
-    ensures summed { λ _. ⌜ SumsFilled (now (balances .entry)) (now (sums .entry)) (now (sums .exit)) ⌝ }
-    ensures counted { λ _. ⌜ CountsFilled (now (balances .entry)) (now (counts .entry)) (now (counts .exit)) ⌝ }
+    ensures { λ _. ⌜ Written (at-person (now (balances .entry))) (length (now (balances .entry)))
+        (now (sums .entry)) (now (sums .exit)) (now (counts .entry)) (now (counts .exit)) ⌝ }
 {
     let n = balances.len() as u32;
     for set in 0..(1u32 << n) {

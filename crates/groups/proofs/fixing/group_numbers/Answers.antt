@@ -6,7 +6,7 @@ use Rattle.std.specs.Of.Vec.{vec-items}
 use Rattle.groups.proofs.FixedGroups.{fixed-all}
 use Rattle.groups.proofs.OpenLaws.{open-all, open-below, open-sum}
 use Rattle.groups.proofs.SizeLaws.{size-le}
-use Rattle.groups.proofs.fixing.group_people.Needs as need
+use Rattle.groups.proofs.fixing.group_numbers.Needs as need
 use Rattle.balances.specs.Signed.{at-person}
 use Rattle.groups.specs.Signs.{AllOpen, sumOf}
 
@@ -30,8 +30,7 @@ returns c =
     let f = at-person (c .args .balances .now) in
     let n = length (c .args .balances .now) in
     record {
-      summed = c .fill .ensures .summed;
-      counted = c .fill .ensures .counted;
+      written = c .fill .ensures;
       groups = fixed-all f n (c .fill .last .counts) (c .open-people .result) (vec-items (c .in-Continue-groups .groups)) (vec-items (c .fix .last .groups))
           (λ k l. c .fill .ensures .counted .below k 0 l) (c .in-Continue-groups .ensures tt .made .0) (c .open-people .ensures) (c .fix .ensures);
     }
