@@ -9,6 +9,7 @@ ghost use Rattle.balances.specs.Signed.{at-person, spanZ};
 
 pub mod making;
 pub mod reading;
+pub mod tally;
 
 // A number of cents for each person, below 0 for who owes and above 0 for who is owed: all in range, 0 for those of
 // sixteen who are not there, and 0 all together.

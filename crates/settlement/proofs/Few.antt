@@ -13,7 +13,7 @@ use Rattle.balances.proofs.Holds.{sides-even}
 use Rattle.groups.specs.Groups.{still-open}
 use Rattle.groups.specs.Sets.{isIn}
 use Rattle.settlement.specs.Amounts.{settled-by}
-use Rattle.settlement.specs.Parted.{Parted}
+use Rattle.groups.specs.SetsPart.{Sets-part}
 use Rattle.settlement.specs.Paying.{settlement}
 use Rattle.settlement.proofs.Settled.{sets-settle}
 
@@ -23,9 +23,9 @@ unfolding still-open
 still-open-le b = span-count _ (b .people) (λ i l. grind arith)
 
 -- sets that part the open people give no more payments than there are people
-pub payments-le : (n : ℕ) (f : ℕ → ℤ) (sets : List ℕ) → any.Even (signed n f) → Parted (signed n f) (map isIn sets) → length (settlement n sets f) ≤ n
+pub payments-le : (n : ℕ) (f : ℕ → ℤ) (sets : List ℕ) → any.Even (signed n f) → Sets-part (signed n f) (map isIn sets) → length (settlement n sets f) ≤ n
 payments-le n f sets e h = omega (arith, sets-settle n f sets e h .1, still-open-le (signed n f))
 
 -- and so at most sixteen
-pub at-most-sixteen : (b : Balances) (sets : List ℕ) → Parted (sides-of b) (map isIn sets) → length (settled-by b sets) ≤ 16
+pub at-most-sixteen : (b : Balances) (sets : List ℕ) → Sets-part (sides-of b) (map isIn sets) → length (settled-by b sets) ≤ 16
 at-most-sixteen b sets h = omega (arith, payments-le (b .people) _ sets (sides-even b) h, b .crew)

@@ -8,7 +8,7 @@ use lib.Dec.{ltb, eqb}
 use lib.ListN.{length}
 use Rattle.std.specs.shelf.Lists.{All}
 use Rattle.shares.specs.Bill.{pick}
-use Rattle.settlement.specs.Parted.{times, Even-group}
+use Rattle.groups.specs.SetsPart.{times, Even-group}
 use Rattle.settlement.specs.Paying.{all-payments}
 use Rattle.settlement.specs.Promise.{Groups-settle}
 use Rattle.settlement.proofs.Settled.{parted-settles}

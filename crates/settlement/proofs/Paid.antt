@@ -10,7 +10,7 @@ use lib.ListN.{length}
 use Rattle.std.proofs.shelf.Tests.{cases-eq, cases-order, cases-bool, eq-eqb, ne-eqb, and-parts, and-cases, ltb-true, ltb-false}
 use Rattle.shares.specs.Bill.{pick}
 use Rattle.shares.specs.Span.{span}
-use Rattle.settlement.specs.Parted.{in-group}
+use Rattle.groups.specs.SetsPart.{in-group}
 use Rattle.book.specs.Ledger.{Payment}
 use Rattle.settlement.specs.Settle.{out, into, money}
 use Rattle.settlement.specs.Paying.{first, has, less-at, group-payments}

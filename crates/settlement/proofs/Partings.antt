@@ -13,7 +13,7 @@ use Rattle.shares.specs.Bill.{pick}
 use Rattle.shares.specs.Span.{span}
 use Rattle.balances.specs.Even.{Balances}
 use Rattle.groups.specs.Groups.{Groups}
-use Rattle.settlement.specs.Parted.{times, in-group, Even-group, Parted}
+use Rattle.groups.specs.SetsPart.{times, in-group, Even-group, Sets-part}
 use Rattle.shares.proofs.Spans.{span-same, at-most-span, span-some}
 
 -- nobody
@@ -43,7 +43,7 @@ unfolding times place
 place-below [] i h = absurd (omega arith)
 place-below (m ∷ ms) i h = grind (arith, place-below ms i)
 
-pub parted-groups : (b : Balances) (ms : List (ℕ → Bool)) → Parted b ms → Groups b (length ms)
+pub parted-groups : (b : Balances) (ms : List (ℕ → Bool)) → Sets-part b ms → Groups b (length ms)
 parted-groups b ms h = record { group = place ms; below = λ i l x. place-below ms i (h .once i l x); even = even; some = some }
   where
     n : ℕ

@@ -13,7 +13,7 @@ use Rattle.shares.specs.Bill.{pick}
 use Rattle.shares.specs.Span.{span}
 use Rattle.balances.specs.Even.{Balances, Even}
 use Rattle.groups.specs.Groups.{still-open}
-use Rattle.settlement.specs.Parted.{times, in-group, Even-group, Parted}
+use Rattle.groups.specs.SetsPart.{times, in-group, Even-group, Sets-part}
 use Rattle.book.specs.Ledger.{Payment}
 use Rattle.settlement.specs.Settle.{out, into, money, Settles}
 use Rattle.balances.specs.Signed.{signed}
@@ -76,7 +76,7 @@ paid-all b e (m ∷ ms) h =
     }
 
 -- groups that part the open people: their payments settle, are so few, and move what is owed
-pub parted-settles : (b : Balances) → Even b → (ms : List (ℕ → Bool)) → Parted b ms →
+pub parted-settles : (b : Balances) → Even b → (ms : List (ℕ → Bool)) → Sets-part b ms →
     let ps : List Payment = all-payments (b .people) ms (b .owes) (b .owed) in
     Settles b ps × (length ps + length ms ≤ still-open b) × (money ps ≡ span (b .owes) (b .people))
 unfolding still-open

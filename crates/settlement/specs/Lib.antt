@@ -1,6 +1,5 @@
 pub mod Amounts
 pub mod Crews
-pub mod Parted
 pub mod Paying
 pub mod Promise
 pub mod Reading

@@ -9,7 +9,7 @@ use Rattle.balances.specs.Even.{Balances, Even}
 use Rattle.groups.specs.Groups.{Groups, still-open}
 use Rattle.book.specs.Ledger.{Payment, Line, Sound}
 use Rattle.settlement.specs.Settle.{Settles, money, Best}
-use Rattle.settlement.specs.Parted.{Parted}
+use Rattle.groups.specs.SetsPart.{Sets-part}
 use Rattle.balances.specs.Signed.{signed}
 use Rattle.groups.specs.Sets.{isIn}
 use Rattle.settlement.specs.Paying.{settlement}
@@ -34,14 +34,14 @@ Groups-settle =
 -- sets that part the open people of a crew whose balances sum to 0: the first who owes paying the first who is owed settles them so
 abbrev pub Sets-settle : Type 0
 Sets-settle =
-    (n : ℕ) (f : ℕ → ℤ) (sets : List ℕ) → Even (signed n f) → Parted (signed n f) (map isIn sets) →
+    (n : ℕ) (f : ℕ → ℤ) (sets : List ℕ) → Even (signed n f) → Sets-part (signed n f) (map isIn sets) →
     Settles (signed n f) (settlement n sets f) × (length (settlement n sets f) + length sets ≤ still-open (signed n f)) ×
     (money (settlement n sets f) ≡ span (signed n f .owes) n)
 
 -- and where no parting has more groups it is best
 abbrev pub Sets-best : Type 0
 Sets-best =
-    (n : ℕ) (f : ℕ → ℤ) (sets : List ℕ) → Even (signed n f) → Parted (signed n f) (map isIn sets) →
+    (n : ℕ) (f : ℕ → ℤ) (sets : List ℕ) → Even (signed n f) → Sets-part (signed n f) (map isIn sets) →
     ((h : ℕ) → Groups (signed n f) h → h ≤ length sets) → Best (signed n f) (settlement n sets f)
 
 -- a settlement carried out and written into the book leaves nothing open

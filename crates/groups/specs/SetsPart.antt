@@ -23,6 +23,6 @@ pub record Even-group (b : Balances) (m : ℕ → Bool) : Type 0 where
   pub some : (i : ℕ) × (i < b .people) × (m i ≡ true) × (0 < b .owes i + b .owed i)
 
 -- each open person is in one group, and each group comes out even
-pub record Parted (b : Balances) (ms : List (ℕ → Bool)) : Type 0 where
+pub record Sets-part (b : Balances) (ms : List (ℕ → Bool)) : Type 0 where
   pub once : (i : ℕ) → i < b .people → 0 < b .owes i + b .owed i → times ms 1 i ≡ 1
   pub each : All (Even-group b) ms
