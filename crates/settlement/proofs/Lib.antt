@@ -8,6 +8,7 @@ pub mod Joined
 pub mod Settled
 pub mod Numbered
 pub mod Best
+pub mod Books
 pub mod Carried
 pub mod Partings
 pub mod Steps

@@ -4,4 +4,5 @@ pub mod Paying
 pub mod Promise
 pub mod Reading
 pub mod Settle
+pub mod Settled
 pub mod Written

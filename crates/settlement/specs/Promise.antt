@@ -44,6 +44,10 @@ Sets-best =
     (n : ℕ) (f : ℕ → ℤ) (sets : List ℕ) → Even (signed n f) → Sets-part (signed n f) (map isIn sets) →
     ((h : ℕ) → Groups (signed n f) h → h ≤ length sets) → Best (signed n f) (settlement n sets f)
 
+-- every book in order has a settlement than which none has fewer payments and none moves less money
+abbrev pub Settled : Type 0
+Settled = (n : ℕ) (book : List Line) → Sound n book → (ps : List Payment) × Best (balances n book) ps
+
 -- a settlement carried out and written into the book leaves nothing open
 abbrev pub Carried-out : Type 0
 Carried-out = (n : ℕ) (book : List Line) (ps : List Payment) → Sound n book → Settles (balances n book) ps → still-open (balances n (book ++ written ps)) ≡ 0

@@ -1,10 +1,11 @@
 // Settlements: how few payments and how little money settle balances, proved of every list of payments.
 mod paying;
 pub mod payment;
+pub mod settling;
 mod sides;
 
 ghost use Rattle.settlement.specs.Crews.{Crews-settled};
-ghost use Rattle.settlement.specs.Promise.{Money-bound, Groups-bound, Groups-settle, Sets-settle, Sets-best, Carried-out};
+ghost use Rattle.settlement.specs.Promise.{Money-bound, Groups-bound, Groups-settle, Sets-settle, Sets-best, Settled, Carried-out};
 
 // No settlement moves less than what is owed.
 pub fn money_bound()
@@ -29,6 +30,11 @@ pub fn sets_settle()
 // Where no parting has more groups it is best.
 pub fn sets_best()
     ensures { λ _. ⌜ Sets-best ⌝ }
+{}
+
+// Every book in order has a best settlement.
+pub fn every_book_settled()
+    ensures { λ _. ⌜ Settled ⌝ }
 {}
 
 // A settlement carried out and written into the book leaves nothing open.
