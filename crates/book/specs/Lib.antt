@@ -9,3 +9,4 @@ pub mod Promise
 pub mod Reading
 pub mod Rows
 pub mod View
+pub mod Words

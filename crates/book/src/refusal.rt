@@ -1,6 +1,9 @@
 // Why a book or a line is turned away. Each case has a number and a place, by the definition `code`.
 ghost use mathlib.Core.Path.{_≡_};
 ghost use Rattle.book.specs.Codes.{code};
+ghost use Rattle.book.specs.Words.{refused-at};
+ghost use Rattle.std.specs.declared.option.Option.the-variants.{Some};
+use std::fmt;
 
 #[derive(Clone, Copy)]
 pub enum Refusal {
@@ -53,5 +56,16 @@ impl Refusal {
             Refusal::CannotTakeBack => 1,
             Refusal::CrewSize | Refusal::NoRoom | Refusal::UnknownKind | Refusal::TooManyLines => 0,
         }
+    }
+}
+
+// Its number and place in words, as `refused 7 at 6`.
+pub impl fmt::Display for Refusal as RefusalDisplay {
+    ghost shown = { λ r. Some (refused-at (code r)) };
+
+    fn fmt<W: fmt::Write>(&self, f: &mut fmt::Formatter<W>) -> fmt::Result {
+        let number = self.number();
+        let place = self.place();
+        write!(f, "refused {number} at {place}")
     }
 }

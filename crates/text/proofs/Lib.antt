@@ -1,0 +1,3 @@
+pub mod Pieces
+pub mod Reports
+pub mod Runs

@@ -1,0 +1,5 @@
+pub mod Answers
+pub mod Pieces
+pub mod Report
+pub mod Run
+pub mod Texts

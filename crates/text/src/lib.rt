@@ -1,0 +1,60 @@
+// What the program prints, as one function from the input's bytes to a text.
+ghost use mathlib.Core.List.{_++_};
+ghost use mathlib.Core.Path.{_≡_};
+ghost use Rattle.book.specs.Codes.{code};
+ghost use Rattle.book.specs.Words.{refused-at};
+ghost use Rattle.book.specs.declared.refusal.Refusal.the-variants.{CrewSize};
+ghost use Rattle.std.specs.Of.String.{string-bytes};
+ghost use Rattle.std.specs.Vec.{made};
+ghost use Rattle.text.specs.Report.{lines-in, people-in, reported};
+ghost use Rattle.text.specs.Texts.{as-line};
+use book::ledger::Book;
+use book::refusal::Refusal;
+use book::refusal::RefusalDisplay;
+use lines::read_lines;
+use std::alloc::AllocError;
+use std::alloc::Global;
+use writing::write_line;
+
+pub mod answer;
+pub mod lines;
+#[cfg(test)]
+mod tests;
+mod writing;
+
+const ROOM: usize = 512;
+
+// The report on a book: one byte for the number of people, and then the lines. The error is want of memory.
+pub fn report(heap: Global, input: &[u8]) -> Result<String, AllocError>
+    ensures { λ r. ⌜ made r (λ t. string-bytes t ≡ reported (now (input .entry))) ⌝ }
+{
+    let mut text = String::new(heap);
+    let (people, lines) = people_and_lines(input);
+    match Book::new(heap, people, ROOM) {
+        Ok(mut book) => read_lines(&mut book, lines, &mut text)?,
+        Err(refusal) => refuse_book(refusal, &mut text)?,
+    }
+    Ok(text)
+}
+
+// The number of people, which is 0 where there is no byte at all, and the bytes of the lines after it.
+fn people_and_lines(input: &[u8]) -> (u8, &[u8])
+    ensures people { λ r. ⌜ r .0 ≡ people-in (now (input .entry)) ⌝ }
+    ensures lines { λ r. ⌜ now (r .1) ≡ lines-in (now (input .entry)) ⌝ }
+{
+    match input.split_first() {
+        Some((people, lines)) => (*people, lines),
+        None => (0, input),
+    }
+}
+
+// Writes the refusal of the number of people; where a book is refused for anything else, memory is wanting.
+fn refuse_book(refusal: Refusal, text: &mut String) -> Result<(), AllocError>
+    ensures { λ r. ⌜ made r (λ _.
+        (refusal ≡ CrewSize) × (string-bytes (now (text .exit)) ≡ string-bytes (now (text .entry)) ++ as-line (refused-at (code refusal)))) ⌝ }
+{
+    match refusal {
+        Refusal::CrewSize => write_line(text, refusal),
+        _ => Err(AllocError),
+    }
+}
