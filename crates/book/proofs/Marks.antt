@@ -113,7 +113,10 @@ standing-push n es e ordered f =
     let late = returns-earlier n es (e .weights) (e .line) (length es) f (omega arith) in
     let push = taken-push es e (length es) in
     marks-are es e (struck (e .line) (standing es)) (length-struck (e .line) (standing es) ∙ length-standing es)
-    (λ k d h. struck-at (e .line) (standing es) k d (omega (arith, length-standing es)) ∙ ap (λ m. m && not (takes (e .line) k)) (standing-at es k d h) ∙ (let at = taken-push es e k in grind arith))
+    (λ k d h.
+    struck-at (e .line) (standing es) k d (omega (arith, length-standing es))
+    ∙ ap (λ m. m && not (takes (e .line) k)) (standing-at es k d h)
+    ∙ (let at = taken-push es e k in grind arith))
     (grind arith)
 
 -- a book in order with one more line that may follow is in order

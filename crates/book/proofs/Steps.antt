@@ -22,7 +22,8 @@ unfolding total
 total-drop-all ws i h = at-drop-all total ws i h
 
 -- the first place that fails, one place on
-pub first-at-more : (p : ℕ → Bool) (f : ℕ → ℕ) (n i : ℕ) → i < n → first-at p (drop i (map f (counting 0 n))) ≡ cond (p (f i)) (Some (f i)) (first-at p (drop (i + 1) (map f (counting 0 n))))
+pub first-at-more : (p : ℕ → Bool) (f : ℕ → ℕ) (n i : ℕ) → i < n →
+    first-at p (drop i (map f (counting 0 n))) ≡ cond (p (f i)) (Some (f i)) (first-at p (drop (i + 1) (map f (counting 0 n))))
 first-at-more p f n i h =
     let at = getD-map-counting f 0 n i i 0 h (omega arith) in
     let step = at-drop-more (first-at p) (map f (counting 0 n)) i 0 (omega (arith, length-map-counting f 0 n)) in
@@ -32,7 +33,8 @@ pub first-at-all : (p : ℕ → Bool) (f : ℕ → ℕ) (n i : ℕ) → n ≤ i 
 first-at-all p f n i h = at-drop-all (first-at p) (map f (counting 0 n)) i (omega (arith, length-map-counting f 0 n))
 
 -- a row of zeros, the first i of which are written over
-pub written-more : (f : ℕ → ℕ) (n i v : ℕ) → i < n → v ≡ f i → set (map f (counting 0 i) ++ replicate (n - i) 0) i v ≡ map f (counting 0 (i + 1)) ++ replicate (n - (i + 1)) 0
+pub written-more : (f : ℕ → ℕ) (n i v : ℕ) → i < n → v ≡ f i →
+    set (map f (counting 0 i) ++ replicate (n - i) 0) i v ≡ map f (counting 0 (i + 1)) ++ replicate (n - (i + 1)) 0
 written-more f n i v h is =
     let left : n - i ≡ suc (n - (i + 1)) = omega arith in
     rw (left, is, map-counting-more f 0 i i (omega arith), append-assoc)

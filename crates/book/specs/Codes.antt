@@ -1,7 +1,8 @@
 -- Each refusal's number and place.
 use Prim.Native.Nat.{ℕ}
 use Rattle.book.specs.declared.refusal.Refusal.{Refusal}
-use Rattle.book.specs.declared.refusal.Refusal.the-variants.{CrewSize, NoRoom, UnknownKind, WrongLength, UnknownPerson, AmountOutOfRange, WeightTooLarge, NoWeight, PaidToSelf, CannotTakeBack, TooManyLines}
+use Rattle.book.specs.declared.refusal.Refusal.the-variants.{AmountOutOfRange, CannotTakeBack, CrewSize, NoRoom, NoWeight, PaidToSelf}
+use Rattle.book.specs.declared.refusal.Refusal.the-variants.{TooManyLines, UnknownKind, UnknownPerson, WeightTooLarge, WrongLength}
 
 abbrev pub code : Refusal → ℕ × ℕ
 code CrewSize = (1, 0)
