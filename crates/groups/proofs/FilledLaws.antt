@@ -1,7 +1,7 @@
 -- A table that is written from its beginning on.
 use mathlib.Core.List.{List}
 use mathlib.Core.Logic.{_≢_, inl, inr}
-use mathlib.Core.Path.{_∙_, _≡_, ap, refl, sym}
+use mathlib.Core.Path.{_∙_, _≡_, ap, sym}
 use Prim.Native.Nat.{_+_, _<_, ℕ}
 use native.Mathlib.Omega.{arith}
 use lib.ListN.{getD, length, set}
@@ -9,9 +9,7 @@ use Rattle.std.proofs.shelf.Lists.{getD-set-other, getD-set-same}
 use Rattle.std.proofs.shelf.Tests.{cases-eq}
 use Rattle.groups.specs.Filled.{Filled}
 
-pub filled-none : {A : Type 0} (g : ℕ → A) (xs : List A) → Filled g 0 xs xs
-filled-none g xs = record { below = λ k d l. absurd (omega arith); rest = λ k d l. refl }
-
+-- one entry more
 pub filled-more : {A : Type 0} (g : ℕ → A) (i : ℕ) (old xs : List A) (v : A) → v ≡ g i → i < length xs → Filled g i old xs → Filled g (i + 1) old (set xs i v)
 filled-more g i old xs v e room h =
     record {

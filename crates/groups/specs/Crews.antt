@@ -15,6 +15,7 @@ Grouped zs ts = fixedGroups (at-person zs) (length zs) ≡ ts
 abbrev pub minus : ℕ → ℤ
 minus n = negℤ (pos n)
 
+-- example crews and their groups
 abbrev pub Crews-grouped : Type 0
 Crews-grouped =
     Grouped (minus 30 ∷ minus 20 ∷ minus 10 ∷ pos 25 ∷ pos 25 ∷ pos 10 ∷ []) (27 ∷ 36 ∷ [])

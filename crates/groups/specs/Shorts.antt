@@ -1,4 +1,4 @@
--- Which table is too short, and its number and place in the list of refusals.
+-- Tables that have too few entries for all sets of people.
 use mathlib.Core.Bool.{cond}
 use mathlib.Core.List.{List, [], _∷_}
 use Prim.Native.Nat.{_^_, ℕ}
@@ -10,6 +10,7 @@ use Rattle.std.specs.declared.option.Option.the-variants.{None, Some}
 use Rattle.groups.specs.declared.short.Short.{Short}
 use Rattle.groups.specs.declared.short.Short.the-variants.{Counts, Sums}
 
+-- the number and place of a table that is too short
 abbrev pub short-code : Short → ℕ × ℕ
 short-code Sums = (11, 1)
 short-code Counts = (11, 2)

@@ -5,6 +5,8 @@ pub mod grouping;
 mod sets;
 pub mod short;
 mod tables;
+#[cfg(test)]
+mod tests;
 pub mod ungrouped;
 
 ghost use Rattle.groups.specs.Crews.{Crews-grouped};

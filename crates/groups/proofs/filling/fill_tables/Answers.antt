@@ -18,9 +18,8 @@ fill-requires c κs =
 
 pub returns : need.returns
 returns c =
-    let b = c .args .balances .now in
-    let xs = c .numbers .result .now in
     let is = c .numbers .ensures in (
       c .in-Continue-room .ensures tt,
-      of-crew b xs (is .all) (is .each) (λ f n. Written f n (c .args .sums .now) (c .fill .last .sums) (c .args .counts .now) (c .fill .last .counts)) (c .fill .ensures),
+      of-crew (c .args .balances .now) (c .numbers .result .now) (is .all) (is .each)
+          (λ f n. Written f n (c .args .sums .now) (c .fill .last .sums) (c .args .counts .now) (c .fill .last .counts)) (c .fill .ensures),
     )

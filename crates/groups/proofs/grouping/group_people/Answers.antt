@@ -20,9 +20,10 @@ group-numbers-requires c κs =
 
 pub returns-in-Ok : need.returns-in-Ok
 returns-in-Ok c =
-    let is = c .numbers .ensures in (
+    let is = c .numbers .ensures in
+    let then = c .group-numbers .last in (
       c .in-rest .ensures tt,
       of-crew (c .args .balances .now) (c .numbers .result .now) (is .all) (is .each)
-          (λ f n. Made f n (c .args .sums .now) (c .group-numbers .last .sums) (c .args .counts .now) (c .group-numbers .last .counts) (vec-items (c .in-Ok .groups)))
+          (λ f n. Made f n (c .args .sums .now) (then .sums) (c .args .counts .now) (then .counts) (vec-items (c .in-Ok .groups)))
           (c .in-Ok .ensures tt),
     )
