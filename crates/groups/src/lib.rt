@@ -2,7 +2,7 @@
 pub mod filling;
 mod fixing;
 pub mod grouping;
-mod sets;
+pub mod sets;
 pub mod short;
 mod tables;
 #[cfg(test)]

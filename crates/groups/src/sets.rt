@@ -4,8 +4,15 @@ ghost use mathlib.Core.Bool.{true};
 ghost use mathlib.Core.Path.{_≡_};
 ghost use Rattle.groups.specs.Sets.{isIn, smallest, without};
 
+// Is the person in the set? Nobody from 32 on is.
+pub fn has_person(set: u32, person: u8) -> bool
+    ensures { λ r. ⌜ r ≡ isIn set person ⌝ }
+{
+    person < 32 && contains(set, u32::from(person))
+}
+
 // Is person `i` in the set?
-pub fn contains(set: u32, i: u32) -> bool
+pub(crate) fn contains(set: u32, i: u32) -> bool
     requires { ⌜ i < 32 ⌝ }
     ensures { λ r. ⌜ r ≡ isIn set i ⌝ }
 {
@@ -13,7 +20,7 @@ pub fn contains(set: u32, i: u32) -> bool
 }
 
 // The set without person `i`, who is in it.
-pub fn take_out(set: u32, i: u32) -> u32
+pub(crate) fn take_out(set: u32, i: u32) -> u32
     requires bit { ⌜ i < 32 ⌝ }
     requires member { ⌜ isIn set i ≡ true ⌝ }
     ensures { λ r. ⌜ r ≡ without set i ⌝ }
@@ -22,7 +29,7 @@ pub fn take_out(set: u32, i: u32) -> u32
 }
 
 // The smallest person of a set of `n` people.
-pub fn lowest(n: u32, set: u32) -> u32
+pub(crate) fn lowest(n: u32, set: u32) -> u32
     requires few { ⌜ n ≤ 32 ⌝ }
     requires some { ⌜ 0 < set ⌝ }
     requires small { ⌜ set < 2 ^ n ⌝ }
@@ -32,7 +39,7 @@ pub fn lowest(n: u32, set: u32) -> u32
 }
 
 // The set without its smallest person, by a mask.
-pub fn without_lowest(n: u32, set: u32) -> u32
+pub(crate) fn without_lowest(n: u32, set: u32) -> u32
     requires some { ⌜ 0 < set ⌝ }
     requires small { ⌜ set < 2 ^ n ⌝ }
     ensures { λ r. ⌜ r ≡ without set (smallest n set) ⌝ }

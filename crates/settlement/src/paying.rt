@@ -12,6 +12,7 @@ use crate::payment::Payment;
 use crate::sides::credits;
 use crate::sides::debts;
 use balances::sheet::Balances;
+use groups::sets::has_person;
 
 // The payments of all sets, in their order, into an empty list with room for them. Each set starts from the balances as
 // they are: nobody is in two sets.
@@ -61,17 +62,9 @@ fn first_with(people: u8, set: u32, amounts: &[u64; 16]) -> Option<u8>
     ensures { λ r. ⌜ r ≡ first-of people (has (isIn set) (amount-at (now (amounts .entry)))) ⌝ }
 {
     for person in 0..people {
-        if contains(set, u32::from(person)) && amounts[person as usize] > 0 {
+        if has_person(set, person) && amounts[person as usize] > 0 {
             return Some(person);
         }
     }
     None
-}
-
-// Is the person in the set?
-fn contains(set: u32, person: u32) -> bool
-    requires { ⌜ person < 32 ⌝ }
-    ensures { λ r. ⌜ r ≡ isIn set person ⌝ }
-{
-    (set >> person) % 2 == 1
 }
