@@ -1,6 +1,7 @@
 pub mod Answered
 pub mod ByRows
 pub mod Firsts
+pub mod Lookup
 pub mod Marks
 pub mod Passed
 pub mod Sound

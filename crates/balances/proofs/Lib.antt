@@ -1,0 +1,14 @@
+pub mod Bounds
+pub mod Counts
+pub mod Evens
+pub mod FirstFar
+pub mod Holds
+pub mod Marks
+pub mod Returns
+pub mod Signs
+pub mod SpansZ
+pub mod Standing
+pub mod Sums
+pub mod Turns
+pub mod Writes
+pub mod Zeros
