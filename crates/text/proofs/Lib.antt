@@ -1,3 +1,4 @@
 pub mod Pieces
 pub mod Reports
 pub mod Runs
+pub mod Sides

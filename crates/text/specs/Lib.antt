@@ -2,4 +2,5 @@ pub mod Answers
 pub mod Pieces
 pub mod Report
 pub mod Run
+pub mod Sides
 pub mod Texts

@@ -1,15 +1,19 @@
 -- The whole text for an input.
 use mathlib.Core.Bool.{cond}
-use mathlib.Core.List.{List, []}
+use mathlib.Core.List.{List, [], _++_}
 use Prim.Native.Nat.{ℕ}
 use lib.ListN.{drop, getD}
+use Rattle.balances.specs.Even.{Balances}
+use Rattle.balances.specs.Promise.{balances}
 use Rattle.book.specs.Answers.{crew-size}
 use Rattle.book.specs.Codes.{code}
 use Rattle.book.specs.Held.{Held}
+use Rattle.book.specs.Reading.{lines}
 use Rattle.book.specs.Words.{refused-at}
 use Rattle.book.specs.declared.refusal.Refusal.the-variants.{CrewSize}
 use Rattle.text.specs.Pieces.{pieces}
-use Rattle.text.specs.Run.{answers}
+use Rattle.text.specs.Run.{answers, book-after}
+use Rattle.text.specs.Sides.{balances-said}
 use Rattle.text.specs.Texts.{as-line}
 
 -- the first byte is the number of people, and no byte at all is none
@@ -24,6 +28,18 @@ lines-in bs = drop 1 bs
 abbrev pub empty : ℕ → Held
 empty n = record { people = n; room = 512; entries = [] }
 
--- the refusal of that number of people, or the answers to all lines
+-- the balances of a book's people, by the lines that stand
+abbrev pub sides-in : Held → Balances
+sides-in h = balances (h .people) (lines (h .people) (h .entries))
+
+-- what is said of a book after the answers to its lines: the balances
+unfoldable pub closing : Held → List ℕ
+closing h = balances-said (sides-in h)
+
+-- what is said of lines that are read into a book: the answers to them, and then what is said of the book that they end with
+abbrev pub told : Held → List ℕ → List ℕ
+told h ls = answers h (pieces ls) ++ closing (book-after h (pieces ls))
+
+-- the refusal of that number of people, or all that is said of the lines
 unfoldable pub reported : List ℕ → List ℕ
-reported bs = cond (crew-size (people-in bs)) (answers (empty (people-in bs)) (pieces (lines-in bs))) (as-line (refused-at (code CrewSize)))
+reported bs = cond (crew-size (people-in bs)) (told (empty (people-in bs)) (lines-in bs)) (as-line (refused-at (code CrewSize)))

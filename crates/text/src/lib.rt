@@ -2,22 +2,27 @@
 ghost use mathlib.Core.List.{_++_};
 ghost use mathlib.Core.Path.{_≡_};
 ghost use Rattle.book.specs.Codes.{code};
+ghost use Rattle.book.specs.View.{held};
 ghost use Rattle.book.specs.Words.{refused-at};
 ghost use Rattle.book.specs.declared.refusal.Refusal.the-variants.{CrewSize};
 ghost use Rattle.std.specs.Of.String.{string-bytes};
 ghost use Rattle.std.specs.Vec.{made};
-ghost use Rattle.text.specs.Report.{lines-in, people-in, reported};
+ghost use Rattle.text.specs.Report.{closing, lines-in, people-in, reported, told};
 ghost use Rattle.text.specs.Texts.{as-line};
+use balances::sheet::Balances;
 use book::ledger::Book;
 use book::refusal::Refusal;
 use book::refusal::RefusalDisplay;
 use lines::read_lines;
+use owing::write_balances;
 use std::alloc::AllocError;
 use std::alloc::Global;
 use writing::write_line;
 
 pub mod answer;
 pub mod lines;
+pub mod owing;
+pub mod side;
 #[cfg(test)]
 mod tests;
 mod writing;
@@ -31,10 +36,27 @@ pub fn report(heap: Global, input: &[u8]) -> Result<String, AllocError>
     let mut text = String::new(heap);
     let (people, lines) = people_and_lines(input);
     match Book::new(heap, people, ROOM) {
-        Ok(mut book) => read_lines(&mut book, lines, &mut text)?,
+        Ok(mut book) => report_lines(&mut book, lines, &mut text)?,
         Err(refusal) => refuse_book(refusal, &mut text)?,
     }
     Ok(text)
+}
+
+// Writes all that is said of lines that are read into a book.
+fn report_lines(book: &mut Book, lines: &[u8], text: &mut String) -> Result<(), AllocError>
+    ensures { λ r. ⌜ made r (λ _. string-bytes (now (text .exit)) ≡ string-bytes (now (text .entry)) ++ told (held (now (book .entry))) (now (lines .entry))) ⌝ }
+{
+    read_lines(book, lines, text)?;
+    close_book(book, text)?;
+    Ok(())
+}
+
+// Writes what is said of a book after the answers to its lines.
+fn close_book(book: &Book, text: &mut String) -> Result<(), AllocError>
+    ensures { λ r. ⌜ made r (λ _. string-bytes (now (text .exit)) ≡ string-bytes (now (text .entry)) ++ closing (held (now (book .entry)))) ⌝ }
+{
+    write_balances(&Balances::of(book), text)?;
+    Ok(())
 }
 
 // The number of people, which is 0 where there is no byte at all, and the bytes of the lines after it.
