@@ -3,7 +3,7 @@ pub mod Counts
 pub mod Evens
 pub mod FirstFar
 pub mod Holds
-pub mod Marks
+pub mod Numbers
 pub mod Returns
 pub mod Signs
 pub mod SpansZ

@@ -1,9 +1,8 @@
 -- Sums over the lines that stand, of any function of a line: one pass from the front, a line more at the end, a line taken back.
 use mathlib.Core.Path.{_≡_, refl, ap, _∙_}
-use mathlib.Core.Bool.{true, false}
+use mathlib.Core.Bool.{Bool, true, false, not}
 use mathlib.Core.List.{List, [], _∷_, _++_, append-assoc}
-use Prim.Native.Nat.{ℕ, zero, suc, _+_, _*_, _≤_, _<_}
-use native.Mathlib.Nat.{suc-mul}
+use Prim.Native.Nat.{ℕ, zero, suc, _+_, _≤_, _<_}
 use native.Mathlib.Numerals.{add-one}
 use native.Mathlib.Omega.{arith}
 use lib.ListN.{length, getD, drop}
@@ -26,21 +25,16 @@ pub standing-drop :
 unfolding standing
 standing-drop f ls k d l = at-drop-more (standing f k) ls k d l ∙ rw (← add-one k)
 
+-- the same by a flag that says whether the line at k stands
+pub standing-flag :
+    (f : Line → ℕ) (ls : List Line) (k : ℕ) (d : Line) (flag : Bool) → k < length ls → flag ≡ not (taken-back k (drop (k + 1) ls)) →
+    standing f k (drop k ls) ≡ pick flag (f (getD ls k d)) 0 + standing f (k + 1) (drop (k + 1) ls)
+standing-flag f ls k d flag below e = let step = standing-drop f ls k d below in rw e (grind arith)
+
 -- past the last line nothing stands
 pub standing-drop-all : (f : Line → ℕ) (ls : List Line) (k : ℕ) → length ls ≤ k → standing f k (drop k ls) ≡ 0
 unfolding standing
 standing-drop-all f ls k l = at-drop-all (standing f k) ls k l
-
--- where no line is above m by f, the lines that stand are at most m each
-pub standing-le :
-    (f : Line → ℕ) (m n : ℕ) (ls : List Line) → ((k : ℕ) (d : Line) → k < length ls → f (getD ls k d) ≤ m) → standing f n ls ≤ length ls * m
-unfolding standing
-standing-le f m n [] h = omega arith
-standing-le f m n (l ∷ ls) h =
-    let rest = standing-le f m (suc n) ls (λ k d below. h (suc k) d (omega arith)) in
-    let here = h 0 l (omega arith) in
-    let most : pick (taken-back n ls) 0 (f l) ≤ f l = grind arith in
-    omega (arith, suc-mul (length ls) m)
 
 -- a line is taken back by one of two lists if by the first or by the second
 pub taken-back-append : (k : ℕ) (xs ys : List Line) → taken-back k (xs ++ ys) ≡ pick (taken-back k xs) true (taken-back k ys)

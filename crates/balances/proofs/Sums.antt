@@ -3,9 +3,9 @@ use mathlib.Core.Path.{_≡_, refl, sym, ap, _∙_}
 use mathlib.Core.Bool.{true, not}
 use mathlib.Core.List.{List, [], _∷_}
 use mathlib.Core.Logic.{inl, inr}
-use Prim.Native.Nat.{ℕ, zero, suc, _+_, _-_, _≤_, _<_}
+use Prim.Native.Nat.{ℕ, suc, _+_, _-_, _≤_}
 use native.Mathlib.Omega.{arith}
-use lib.IntN.{ℤ, pos, natAbs, _-ℤ_}
+use lib.IntN.{ℤ, pos}
 use lib.ListN.{length, drop, replicate}
 use Rattle.std.proofs.shelf.Lists.{ext-getD, getD-drop, getD-past, length-drop, length-replicate}
 use Rattle.std.proofs.shelf.Signed.{ints}
@@ -22,12 +22,12 @@ use Rattle.balances.specs.Given.{gave, had, standing, given, gotten, owes, is-
 use Rattle.balances.specs.Promise.{balances}
 use Rattle.balances.specs.Range.{most, far, all-near}
 use Rattle.balances.specs.Signed.{at-person, credit, debt, signed, spanZ}
-use Rattle.balances.specs.Tally.{Bounded, balance-of, rest-of}
+use Rattle.balances.specs.Tally.{Bounded, balance-of}
 use Rattle.balances.proofs.Evens.{span-given-gotten}
 use Rattle.balances.proofs.Signs.{difference-sides}
 use Rattle.balances.proofs.SpansZ.{spanZ-less, spanZ-pad, spanZ-same}
 use Rattle.balances.proofs.Standing.{standing-drop-all}
-use Rattle.balances.proofs.Turns.{Running}
+use Rattle.balances.proofs.Turns.{Running, rest-of}
 use Rattle.balances.proofs.Zeros.{zero-at}
 
 -- nobody gave or had anything who is not there

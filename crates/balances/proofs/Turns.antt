@@ -1,6 +1,6 @@
 -- One turn of the pass over a book: a line that stands moves the numbers, any other leaves them.
 use mathlib.Core.Path.{_≡_, refl, sym, ap, _∙_}
-use mathlib.Core.Bool.{Bool, true, false, not}
+use mathlib.Core.Bool.{Bool, true, false}
 use mathlib.Core.List.{List, [], _∷_}
 use mathlib.Core.Logic.{inl, inr}
 use Prim.Native.Nat.{ℕ, zero, suc, _+_, _*_, _≤_, _<_}
@@ -24,12 +24,16 @@ use Rattle.book.specs.declared.line.Entry.{Entry}
 use Rattle.book.specs.declared.line.Line.{Line}
 use Rattle.book.specs.declared.line.Line.the-variants.{Bill, Payment, TakeBack}
 use Rattle.book.proofs.Lookup.{length-lines, lines-at, follows-at, stands-later}
-use Rattle.balances.specs.Given.{gave, had, standing}
+use Rattle.balances.specs.Given.{gave, had, standing, given, gotten}
 use Rattle.balances.specs.Signed.{at-person}
-use Rattle.balances.specs.Tally.{Bounded, Named, balance-of, moves, whole-line, after-line, standing-entry, rest-of}
+use Rattle.balances.specs.Tally.{Bounded, Named, balance-of, moves, whole-line, after-line, standing-entry}
 use Rattle.balances.proofs.Bounds.{amount-of, gave-le, had-le}
 use Rattle.balances.proofs.Counts.{after-line-at, length-after-line}
-use Rattle.balances.proofs.Marks.{standing-flag}
+use Rattle.balances.proofs.Standing.{standing-flag}
+
+-- what person i gives less what it gets by the lines from k on
+abbrev pub rest-of : List ledger.Line → ℕ → ℕ → ℤ
+rest-of ls k i = pos (given i k (drop k ls)) -ℤ pos (gotten i k (drop k ls))
 
 -- the numbers after k lines: with what the lines that are left move they give the balances, and no line moves more than 1,000,000,000
 abbrev pub Running : ℕ → List Entry → ℕ → List ℤ → Type 0

@@ -1,6 +1,5 @@
 pub mod Even
 pub mod Faults
-pub mod Flags
 pub mod Given
 pub mod Promise
 pub mod Range

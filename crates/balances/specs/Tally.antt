@@ -3,7 +3,7 @@ use mathlib.Core.List.{List, map}
 use mathlib.Core.Path.{_≡_}
 use Prim.Native.Nat.{ℕ, _≤_, _<_}
 use lib.IntN.{ℤ, pos, natAbs, _+ℤ_, _-ℤ_}
-use lib.ListN.{getD, drop}
+use lib.ListN.{getD}
 use Rattle.std.specs.Iters.{counting}
 use Rattle.std.specs.declared.option.Option.{Option}
 use Rattle.std.specs.declared.option.Option.the-variants.{None}
@@ -24,10 +24,6 @@ use Rattle.balances.specs.declared.sheet.Balances.{Balances}
 -- what person i has given less what it has had, over the lines that stand
 abbrev pub balance-of : List ledger.Line → ℕ → ℤ
 balance-of ls i = pos (given i 0 ls) -ℤ pos (gotten i 0 ls)
-
--- the same over the lines from k on
-abbrev pub rest-of : List ledger.Line → ℕ → ℕ → ℤ
-rest-of ls k i = pos (given i k (drop k ls)) -ℤ pos (gotten i k (drop k ls))
 
 -- how a line moves the number of person i
 abbrev pub moves : ledger.Line → ℕ → ℤ

@@ -95,17 +95,29 @@ fn fault(cents: &[i64]) -> (u8, u8) {
     }
 }
 
+const MOST: i64 = 1 << 48;
+
+#[test]
+fn faults() -> Result<(), Fail> {
+    let table: [(&[i64], (u8, u8)); 8] = [
+        (&[], (0, 0)),
+        (&[MOST, -MOST], (0, 0)),
+        (&[0; 16], (0, 0)),
+        (&[0; 17], (1, 0)),
+        // the first fault counts
+        (&[i64::MIN; 17], (1, 0)),
+        (&[1, MOST + 1, i64::MIN], (2, 1)),
+        (&[1, -MOST, -MOST - 1], (2, 2)),
+        (&[1, 0], (3, 0)),
+    ];
+    for (cents, told) in table {
+        check_eq(fault(cents), told)?;
+    }
+    Ok(())
+}
+
 #[test]
 fn from_elsewhere() -> Result<(), Fail> {
-    const MOST: i64 = 1 << 48;
-    check_eq(fault(&[]), (0, 0))?;
-    check_eq(fault(&[MOST, -MOST]), (0, 0))?;
-    check_eq(fault(&[0; 16]), (0, 0))?;
-    check_eq(fault(&[0; 17]), (1, 0))?;
-    check_eq(fault(&[i64::MIN; 17]), (1, 0))?;
-    check_eq(fault(&[1, MOST + 1, i64::MIN]), (2, 1))?;
-    check_eq(fault(&[1, -MOST, -MOST - 1]), (2, 2))?;
-    check_eq(fault(&[1, 0]), (3, 0))?;
     let Ok(balances) = Balances::from_cents(&[57, -23, -34]) else {
         return Err(Fail::new("they are even"));
     };

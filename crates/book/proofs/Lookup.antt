@@ -1,6 +1,6 @@
 -- What crates above read off a book: how many lines and people it has, what holds of the line at a place, and whether it stands.
-use mathlib.Core.Path.{_≡_, refl, sym, ap, _∙_}
-use mathlib.Core.Bool.{Bool, true, false, not, _&&_, _||_}
+use mathlib.Core.Path.{_≡_, refl}
+use mathlib.Core.Bool.{true, not}
 use mathlib.Core.List.{List, [], _∷_, _++_, append-assoc}
 use Prim.Native.Nat.{ℕ, zero, suc, _+_, _≤_, _<_}
 use native.Mathlib.Numerals.{add-one}
@@ -12,7 +12,7 @@ use Rattle.std.specs.Finite.{nth}
 use Rattle.std.specs.declared.option.Option.the-variants.{Some}
 use Rattle.book.proofs.Marks.{returns-earlier}
 use Rattle.book.proofs.Sound.{orderly-sound, read-taken}
-use Rattle.book.specs.Held.{takes, taken, stands-at}
+use Rattle.book.specs.Held.{taken, stands-at}
 use Rattle.book.specs.Ledger as ledger
 use Rattle.book.specs.Orderly.{follows, orderly-after, orderly}
 use Rattle.book.specs.Reading.{read-line, lines}

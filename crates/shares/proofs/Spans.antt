@@ -3,9 +3,8 @@ use mathlib.Core.Path.{_≡_, refl, ap}
 use mathlib.Core.Logic.{inl, inr}
 use Prim.Native.Nat.{ℕ, zero, suc, _+_, _-_, _≤_, _<_}
 use native.Mathlib.Omega.{arith}
-use lib.Dec.{eqb}
-use Rattle.std.proofs.shelf.Tests.{cases-lt, cases-eq}
-use Rattle.std.proofs.shelf.Ways.{tells}
+use lib.Dec.{eqb, ltb}
+use Rattle.std.proofs.shelf.Tests.{cases-lt, lt-ltb}
 use Rattle.shares.specs.Bill.{pick}
 use Rattle.shares.specs.Span.{span}
 
@@ -49,17 +48,31 @@ at-most-span f zero i l = omega arith
 at-most-span f (suc n) i l =
     elim (cases-lt i n) [ inl below ↦ omega (arith, at-most-span f n i below) | inr above ↦ omega (arith, ap f (here n i l above)) ]
 
+-- a sum of which one term counts
+pub span-one : (p a n : ℕ) → span (λ i. pick (eqb p i) a 0) n ≡ pick (ltb p n) a 0
+unfolding span
+span-one p a zero = grind arith
+span-one p a (suc n) = grind (arith, span-one p a n)
+
 -- an amount at one person alone is the sum
 pub span-at : (p a n : ℕ) → p < n → span (λ i. pick (eqb p i) a 0) n ≡ a
+span-at p a n l = let one = span-one p a n in let there = lt-ltb p n l in grind arith
+
+-- a sum above 0 has a term above 0
+pub span-some : (f : ℕ → ℕ) (n : ℕ) → 0 < span f n → (i : ℕ) × (i < n) × (0 < f i)
 unfolding span
-span-at p a zero l = omega arith
-span-at p a (suc n) l =
-    elim (cases-eq p n) [
-      | inl last ↦
-          let rest : span (λ i. pick (eqb p i) a 0) n ≡ 0 = span-zero (λ i. pick (eqb p i) a 0) n (λ i below. grind (arith, tells)) in
-          grind (arith, tells)
-      | inr other ↦ let rest : span (λ i. pick (eqb p i) a 0) n ≡ a = span-at p a n (omega arith) in grind (arith, tells)
+span-some f zero h = absurd (omega arith)
+span-some f (suc n) h =
+    elim (cases-lt 0 (f n)) [
+      | inl l ↦ (n, omega arith, l)
+      | inr l ↦ let r = span-some f n (omega arith) in (r .0, omega arith, r .2)
     ]
+
+-- a count of n is at most n
+pub span-count : (f : ℕ → ℕ) (n : ℕ) → ((i : ℕ) → i < n → f i ≤ 1) → span f n ≤ n
+unfolding span
+span-count f zero h = omega arith
+span-count f (suc n) h = omega (arith, h n (omega arith), span-count f n (λ i l. h i (omega arith)))
 
 excess : (f g : ℕ → ℕ) (n : ℕ) → span (λ i. f i - g i) n + span g n ≡ span (λ i. g i - f i) n + span f n
 unfolding span

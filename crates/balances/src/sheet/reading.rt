@@ -1,6 +1,7 @@
 // Reading balances: what the crates above may see of them.
+ghost use lib.ListN.{length};
 ghost use mathlib.Core.Path.{_≡_};
-ghost use Rattle.balances.specs.View.{people-of, cents-of};
+ghost use Rattle.balances.specs.View.{people-of, cents-of, numbers-of};
 use crate::sheet::Balances;
 
 impl Balances {
@@ -20,5 +21,13 @@ impl Balances {
         } else {
             0
         }
+    }
+
+    // The numbers of the people who are there, person 0 first.
+    pub fn numbers(&self) -> &[i64]
+        ensures all { λ r. ⌜ now r ≡ numbers-of (now (self .entry)) ⌝ }
+        ensures each { λ r. ⌜ length (now r) ≡ people-of (now (self .entry)) ⌝ }
+    {
+        &self.cents[0..self.people as usize]
     }
 }

@@ -1,6 +1,6 @@
 // Balances of a book: one pass over its lines.
 ghost use mathlib.Core.Path.{_≡_};
-ghost use Prim.Native.Nat.{_*_, _^_, _≤_};
+ghost use Prim.Native.Nat.{_*_};
 ghost use Rattle.balances.specs.Range.{most};
 ghost use Rattle.balances.specs.Tally.{Bounded, Counted, Named, after-line, less-shares, standing-entry, whole-line};
 ghost use Rattle.book.specs.View.{held};

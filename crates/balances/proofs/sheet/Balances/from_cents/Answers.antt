@@ -2,7 +2,7 @@ use mathlib.Core.Path.{_≡_, refl, sym, ap, _∙_}
 use native.Mathlib.Omega.{arith}
 use borrow.Author.Needs.{needs}
 use lib.IntN.{pos}
-use lib.ListN.{length, drop, replicate}
+use lib.ListN.{length, drop}
 use Rattle.std.proofs.shelf.Lists.{drop-at}
 use Rattle.balances.proofs.FirstFar.{none-far, no-fault}
 use Rattle.balances.proofs.Zeros.{at-zeros, near-padded, span-padded}

@@ -1,0 +1,14 @@
+pub mod Counts
+pub mod Courses
+pub mod Crews
+pub mod Filled
+pub mod Fixed
+pub mod Groups
+pub mod Made
+pub mod Parting
+pub mod Sets
+pub mod SetsPart
+pub mod Shorts
+pub mod Signs
+pub mod Tables
+pub mod Theorems
