@@ -33,7 +33,7 @@ static CASES: [(&[u8], &str); 6] = [
             0,
             0,
         ],
-        "line 0\nline 1\n0 is owed 57\n1 owes 23\n2 owes 34\n",
+        "line 0\nline 1\n0 is owed 57\n1 owes 23\n2 owes 34\n1 pays 0 23\n2 pays 0 34\n",
     ),
     // a refused line gets no number, a line is taken back once, and then all are even
     (

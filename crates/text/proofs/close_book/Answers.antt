@@ -1,10 +1,9 @@
-use mathlib.Core.List.{_++_}
-use mathlib.Core.Path.{ap, _∙_}
-use Rattle.std.specs.Of.String.{string-bytes}
+use mathlib.Core.Path.{ap}
+use Rattle.settlement.specs.Reading.{read-payments}
+use Rattle.text.proofs.Reports.{closed}
 use Rattle.text.proofs.close_book.Needs as need
-use Rattle.text.specs.Report.{closing}
-use Rattle.text.specs.Sides.{balances-said}
 
 pub returns : need.returns
-unfolding closing
-returns c = c .in-Continue-write-balances .ensures tt ∙ ap (λ b. string-bytes (c .args .text .now) ++ balances-said b) (c .of .ensures .sides)
+returns c =
+    closed _ _ _ _ _ _ _ (c .of .ensures) (c .in-Continue-payments .ensures tt) (ap read-payments (c .as-slice .ensures .value))
+    (c .in-Continue-write-balances .ensures tt) (c .in-Continue-write-payments .ensures tt)
