@@ -1,5 +1,7 @@
-// Tables of cases for the crates of this repository. Expected answers are worked out by hand from the rules.
+// Tables of cases for the crates of this repository.
 #[cfg(test)]
 mod crews;
 #[cfg(test)]
 mod lines;
+#[cfg(test)]
+mod reports;

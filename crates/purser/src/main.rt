@@ -1,16 +1,83 @@
-// The program: reads a book from standard input and prints the report on it.
-use std::error::AnyError;
+// The program: reads a book from a file or from standard input and prints the report on it.
+use command::Command;
+use command::asked_for;
+use fault::Fault;
+use fault::FaultDisplay;
+use std::env;
+use std::fs;
 use std::io::Read;
 
-// What goes wrong, with a read, a write or memory, is told on standard error, and the status is then 1.
-fn main(rt: LibcRuntime) -> Result<(), AnyError> {
-    rt.report(run(&rt))
+mod command;
+mod fault;
+
+const HELP: &str = "\
+usage: purser [FILE]
+
+Prints the report on a book of bills and payments: an answer to each line, who owes and who is owed,
+and the payments that settle it. The book is read from FILE, or from standard input.
+
+  --help     print this
+  --version  print the version
+";
+
+const VERSION: &str = "purser 1.0.0\n";
+
+// What goes wrong is told on standard error, and the status is then 1.
+fn main(rt: LibcRuntime) -> Result<(), Fault> {
+    let done = run(&rt);
+    if let Err(fault) = &done {
+        let _ = eprintln!(rt, "purser: {fault}");
+    }
+    done
 }
 
-fn run(rt: &LibcRuntime) -> Result<(), AnyError> {
+fn run(rt: &LibcRuntime) -> Result<(), Fault> {
+    match read_arguments(rt)? {
+        Command::Input => print_report(rt, read_input(rt)?),
+        Command::File(name) => print_report(rt, read_file(rt, name)?),
+        Command::Help => print(rt, HELP),
+        Command::Version => print(rt, VERSION),
+        Command::Unknown(word) => Err(Fault::UnknownArgument(word)),
+    }
+}
+
+// What the arguments after the program's own name ask for.
+fn read_arguments(rt: &LibcRuntime) -> Result<Command, Fault> {
+    match env::args(rt) {
+        Ok(words) => {
+            let mut words = words.skip(1);
+            Ok(asked_for(words.next(), words.next()))
+        }
+        Err(why) => Err(Fault::Arguments(why)),
+    }
+}
+
+fn read_input(rt: &LibcRuntime) -> Result<Vec<u8>, Fault> {
     let mut input = Vec::new(rt.alloc());
-    rt.stdin().read_to_end(&mut input)?;
-    let text = text::report(rt.alloc(), input.as_slice())?;
-    rt.print(text.as_str())?;
-    Ok(())
+    match rt.stdin().read_to_end(&mut input) {
+        Ok(_) => Ok(input),
+        Err(why) => Err(Fault::Input(why)),
+    }
+}
+
+fn read_file(rt: &LibcRuntime, name: String) -> Result<Vec<u8>, Fault> {
+    match fs::read(rt, name.as_str()) {
+        Ok(input) => Ok(input),
+        Err(why) => Err(Fault::File(name, why)),
+    }
+}
+
+// Prints the report only once all of it is made.
+fn print_report(rt: &LibcRuntime, input: Vec<u8>) -> Result<(), Fault> {
+    match text::report(rt.alloc(), input.as_slice()) {
+        Ok(text) => print(rt, text.as_str()),
+        Err(_) => Err(Fault::Memory),
+    }
+}
+
+fn print(rt: &LibcRuntime, text: &str) -> Result<(), Fault> {
+    match rt.print(text) {
+        Ok(()) => Ok(()),
+        Err(why) => Err(Fault::Output(why)),
+    }
 }

@@ -1,5 +1,7 @@
 pub mod Answers
+pub mod Payments
 pub mod Pieces
 pub mod Report
 pub mod Run
+pub mod Sides
 pub mod Texts

@@ -5,7 +5,10 @@ use Prim.Native.Nat.{ℕ}
 use lib.ListN.{length}
 use Rattle.book.specs.Answers.{entry-said, with-said}
 use Rattle.book.specs.Held.{Held}
+use Rattle.book.specs.Ledger.{Line}
+use Rattle.book.specs.Reading.{lines}
 use Rattle.book.specs.Rows.{first-row, rows, rows-of-cut}
+use Rattle.book.specs.declared.line.Entry.{Entry}
 use Rattle.std.specs.declared.option.Option.{Option}
 use Rattle.std.specs.declared.option.Option.the-variants.{Some, None}
 use Rattle.text.specs.Answers.{Reply, answer-said, refused, taken}
@@ -45,6 +48,23 @@ replies h (p ∷ ps) = reply h p ∷ replies (after h p) ps
 unfoldable pub book-after : Held → List Piece → Held
 book-after h [] = h
 book-after h (p ∷ ps) = book-after (after h p) ps
+
+-- the line that bytes say, in a book for n people
+abbrev pub line-said : ℕ → Option Entry → List Line
+line-said n None = []
+line-said n (Some e) = lines n (e ∷ [])
+
+-- the line of a piece that was answered with a number
+abbrev pub answered-by : ℕ → Piece → Reply → List Line
+answered-by n (whole bs) (taken number) = line-said n (entry-said n bs)
+answered-by n (cut bs) (taken number) = line-said n (entry-said n bs)
+answered-by n p (refused code) = []
+
+-- the lines that were answered with a number, in their order
+unfoldable pub answered : ℕ → List Piece → List Reply → List Line
+answered n [] rs = []
+answered n (p ∷ ps) [] = []
+answered n (p ∷ ps) (r ∷ rs) = answered-by n p r ++ answered n ps rs
 
 -- each answer is a line of text
 unfoldable pub said : List Reply → List ℕ
