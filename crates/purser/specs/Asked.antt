@@ -14,6 +14,7 @@ use Rattle.std.specs.declared.option.Option.the-variants.{Some, None}
 use Rattle.std.specs.declared.string.String.{String}
 use Rattle.std.specs.shelf.Text.{sameBytes}
 
+-- an argument
 abbrev pub Word : Type 0
 Word = String Global
 
@@ -27,8 +28,16 @@ asked-by word =
     cond (sameBytes (string-bytes word) (codes "--help")) Help
     (cond (sameBytes (string-bytes word) (codes "--version")) Version (cond (is-option (string-bytes word)) (Unknown word) (File word)))
 
--- no word asks for standard input, and a second word means nothing
+-- where a word follows, which means nothing: the first word that means nothing
+abbrev pub but-followed : Command → Word → Command
+but-followed Input second = Unknown second
+but-followed (File name) second = Unknown second
+but-followed Help second = Unknown second
+but-followed Version second = Unknown second
+but-followed (Unknown word) second = Unknown word
+
+-- no word asks for standard input
 abbrev pub asked : Option Word → Option Word → Command
 asked None second = Input
 asked (Some word) None = asked-by word
-asked (Some word) (Some second) = Unknown second
+asked (Some word) (Some second) = but-followed (asked-by word) second

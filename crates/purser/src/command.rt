@@ -21,7 +21,10 @@ pub fn asked_for(first: Option<String>, second: Option<String>) -> Command
     match (first, second) {
         (None, _) => Command::Input,
         (Some(word), None) => asked_by(word),
-        (Some(_), Some(more)) => Command::Unknown(more),
+        (Some(word), Some(second)) => match asked_by(word) {
+            Command::Unknown(word) => Command::Unknown(word),
+            _ => Command::Unknown(second),
+        },
     }
 }
 
