@@ -3,6 +3,8 @@ pub mod auditing;
 mod decode;
 mod owing;
 mod tally;
+#[cfg(test)]
+mod tests;
 pub mod unaudited;
 pub mod verdict;
 
