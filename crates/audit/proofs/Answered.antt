@@ -14,6 +14,7 @@ use Rattle.std.proofs.shelf.Tests.{eqb-true, eq-eqb}
 use Rattle.std.proofs.shelf.Ways.{same-from-decides}
 use Rattle.std.proofs.shelf.Lists.{length-map}
 use Rattle.std.specs.declared.option.Option.the-variants.{None}
+use Rattle.std.specs.declared.result.Result.{Result}
 use Rattle.std.specs.declared.result.Result.the-variants.{Ok}
 use Rattle.shares.specs.Span.{span}
 use Rattle.balances.proofs.Holds.{even-there, sides-even}
@@ -38,7 +39,7 @@ use Rattle.groups.specs.Tables.{Written}
 use Rattle.settlement.specs.Amounts.{first-of}
 use Rattle.settlement.specs.Paying.{first}
 use Rattle.settlement.specs.Settled.{book-lines}
-use Rattle.audit.specs.Audited.{Audited, Turned-away}
+use Rattle.audit.specs.Audited.{Answers, Audited}
 use Rattle.audit.specs.Bytes.{lent, payments-of}
 use Rattle.audit.specs.Judged.{first-unquit, quit, verdict-of}
 use Rattle.audit.specs.Running.{In-order, Running, is-left, net-of}
@@ -97,14 +98,11 @@ answered b ps t old-sums sums old-counts counts v room told w e =
     record { taken = rw (room, told .0) refl; written = w; fits = given-fits b (payments-of (lent ps)) (t .net) (t .moved) (told .1) v (e ∙ rw (g, size) refl) }
 
 -- what is answered for the balances of a book is answered for the book
-module _ (h : Held) (b : Balances) (counted : Counted h b) (old-sums sums : List ℤ) (old-counts counts : List ℕ) (bss : List (List ℕ)) where
-  pub audited-book : (v : Verdict) → Audited (people-of b) (cents-of b) (sides-of b) old-sums sums old-counts counts bss v →
-      Audited (h .people) (balance-of (book-lines h)) (balances (h .people) (book-lines h)) old-sums sums old-counts counts bss v
-  audited-book v a =
-      let numbers : cents-of b ≡ balance-of (book-lines h) = fun-ext (counted .each) in
-      subst (λ n. Audited n (balance-of (book-lines h)) (balances (h .people) (book-lines h)) old-sums sums old-counts counts bss v) (counted .people)
-      (subst (λ f. Audited (people-of b) f (balances (h .people) (book-lines h)) old-sums sums old-counts counts bss v) numbers
-      (subst (λ s. Audited (people-of b) (cents-of b) s old-sums sums old-counts counts bss v) (counted .sides) a))
-
-  pub refused-book : (e : Unaudited) → Turned-away (people-of b) old-sums sums old-counts counts bss e → Turned-away (h .people) old-sums sums old-counts counts bss e
-  refused-book e t = subst (λ n. Turned-away n old-sums sums old-counts counts bss e) (counted .people) t
+pub answers-book : (h : Held) (b : Balances) → Counted h b → (old-sums sums : List ℤ) (old-counts counts : List ℕ) (bss : List (List ℕ)) (r : Result Verdict Unaudited) →
+    Answers (people-of b) (cents-of b) (sides-of b) old-sums sums old-counts counts bss r →
+    Answers (h .people) (balance-of (book-lines h)) (balances (h .people) (book-lines h)) old-sums sums old-counts counts bss r
+answers-book h b counted old-sums sums old-counts counts bss r a =
+    let numbers : cents-of b ≡ balance-of (book-lines h) = fun-ext (counted .each) in
+    subst (λ n. Answers n (balance-of (book-lines h)) (balances (h .people) (book-lines h)) old-sums sums old-counts counts bss r) (counted .people)
+    (subst (λ f. Answers (people-of b) f (balances (h .people) (book-lines h)) old-sums sums old-counts counts bss r) numbers
+    (subst (λ s. Answers (people-of b) (cents-of b) s old-sums sums old-counts counts bss r) (counted .sides) a))

@@ -1,6 +1,9 @@
-pub mod Sums
-pub mod Runs
-pub mod FromBytes
-pub mod Owings
-pub mod Verdicts
 pub mod Answered
+pub mod Encodings
+pub mod FromBytes
+pub mod OwnAudited
+pub mod Owings
+pub mod Runs
+pub mod Settlements
+pub mod Sums
+pub mod Verdicts

@@ -24,7 +24,7 @@ use Rattle.settlement.proofs.Firsts.{first-passes, first-least}
 use Rattle.audit.specs.declared.verdict.Verdict.{Verdict}
 use Rattle.audit.specs.declared.verdict.Verdict.the-variants.{FewestAndLeast, FewestOnly, LeastOnly, SettlesOnly, NotQuit}
 use Rattle.audit.specs.Judged.{first-unquit, graded, is-few, is-little, judged, quit, verdict-of}
-use Rattle.audit.specs.Promise.{Best-judged, Judged-fits, Only-one, Says-fewest, Says-least, Settled-audited}
+use Rattle.audit.specs.Promise.{Best-judged, Judged-fits, Only-one, Says-fewest, Says-least}
 use Rattle.audit.specs.Verdict.{Among, Fewest, Fits, Least, Quit, Unquit, says-fewest, says-least}
 
 -- what stands past the end of a list of payments
@@ -171,6 +171,3 @@ only-one b ps v w f h =
 pub best-judged : Best-judged
 best-judged b ps v h f =
     only-one b ps v FewestAndLeast f (record { settles = h .settles; fewest = h .fewest }, record { settles = h .settles; least = h .least })
-
-pub settled-audited : Settled-audited
-settled-audited h ps bss v s0 s1 t0 t1 c0 c1 d0 d1 settled same audited = best-judged _ ps v (settled .best) (rw same at (audited .fits))

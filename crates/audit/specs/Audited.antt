@@ -4,6 +4,8 @@ use mathlib.Core.Path.{_≡_}
 use Prim.Native.Nat.{ℕ}
 use lib.IntN.{ℤ}
 use Rattle.std.specs.declared.option.Option.the-variants.{Some, None}
+use Rattle.std.specs.declared.result.Result.{Result}
+use Rattle.std.specs.declared.result.Result.the-variants.{Ok, Err}
 use Rattle.balances.specs.Even.{Balances}
 use Rattle.groups.specs.Tables.{Kept, Written}
 use Rattle.audit.specs.Bytes.{payments-of}
@@ -22,3 +24,8 @@ pub record Audited (n : ℕ) (f : ℕ → ℤ) (b : Balances) (old-sums sums : L
 pub record Turned-away (n : ℕ) (old-sums sums : List ℤ) (old-counts counts : List ℕ) (bss : List (List ℕ)) (e : Unaudited) : Type 0 where
   pub first : refusal n old-sums old-counts bss ≡ Some e
   pub kept : Kept old-sums sums old-counts counts
+
+-- a verdict or the first refusal
+abbrev pub Answers : ℕ → (ℕ → ℤ) → Balances → List ℤ → List ℤ → List ℕ → List ℕ → List (List ℕ) → Result Verdict Unaudited → Type 0
+Answers n f b old-sums sums old-counts counts bss (Ok v) = Audited n f b old-sums sums old-counts counts bss v
+Answers n f b old-sums sums old-counts counts bss (Err e) = Turned-away n old-sums sums old-counts counts bss e

@@ -1,5 +1,6 @@
 pub mod Audited
 pub mod Bytes
+pub mod Encoded
 pub mod Judged
 pub mod Promise
 pub mod Refused

@@ -4,18 +4,24 @@ use mathlib.Core.List.{List}
 use Prim.Native.Nat.{ℕ, _≤_}
 use lib.IntN.{ℤ}
 use Rattle.std.specs.Orderings.{Decides}
+use Rattle.std.specs.declared.option.Option.the-variants.{None}
+use Rattle.std.specs.declared.result.Result.{Result}
+use Rattle.std.specs.declared.result.Result.the-variants.{Ok}
 use Rattle.balances.specs.Even.{Balances, Even}
 use Rattle.balances.specs.Promise.{balances}
-use Rattle.balances.specs.Tally.{balance-of}
+use Rattle.balances.specs.Tally.{Counted, balance-of}
+use Rattle.balances.specs.declared.sheet.Balances as sheet
 use Rattle.book.specs.Held.{Held}
 use Rattle.book.specs.Ledger.{Payment}
 use Rattle.groups.specs.Groups.{Groups}
+use Rattle.groups.specs.Shorts.{too-short}
 use Rattle.settlement.specs.Settle.{Best}
 use Rattle.settlement.specs.Settled.{Settled-by, book-lines}
-use Rattle.audit.specs.Audited.{Audited}
-use Rattle.audit.specs.Bytes.{payments-of}
+use Rattle.audit.specs.Audited.{Answers}
+use Rattle.audit.specs.Encoded.{all-encoded}
 use Rattle.audit.specs.Judged.{judged}
 use Rattle.audit.specs.Verdict.{Among, Fewest, Least, Fits, says-fewest, says-least}
+use Rattle.audit.specs.declared.unaudited.Unaudited.{Unaudited}
 use Rattle.audit.specs.declared.verdict.Verdict.{Verdict}
 use Rattle.audit.specs.declared.verdict.Verdict.the-variants.{FewestAndLeast}
 
@@ -40,9 +46,11 @@ Says-least = (b : Balances) (ps : List Payment) (v : Verdict) → Fits b ps v �
 abbrev pub Best-judged : Type 0
 Best-judged = (b : Balances) (ps : List Payment) (v : Verdict) → Best b ps → Fits b ps v → v ≡ FewestAndLeast
 
--- whatever settling a book gives, the auditor's verdict on it is both
+-- whatever settling a book gives, written as bytes, is no payment that is turned away, and the auditor answers that it is both
 abbrev pub Settled-audited : Type 0
 Settled-audited =
-    (h : Held) (ps : List Payment) (bss : List (List ℕ)) (v : Verdict) (s0 s1 t0 t1 : List ℤ) (c0 c1 d0 d1 : List ℕ) →
-    Settled-by (h .people) (balance-of (book-lines h)) (balances (h .people) (book-lines h)) s0 s1 c0 c1 ps → payments-of bss ≡ ps →
-    Audited (h .people) (balance-of (book-lines h)) (balances (h .people) (book-lines h)) t0 t1 d0 d1 bss v → v ≡ FewestAndLeast
+    (h : Held) (b : sheet.Balances) → Counted h b → (ps : List Payment) (old-sums sums : List ℤ) (old-counts counts : List ℕ) →
+    Settled-by (h .people) (balance-of (book-lines h)) (balances (h .people) (book-lines h)) old-sums sums old-counts counts ps →
+    (r : Result Verdict Unaudited) (before-sums after-sums : List ℤ) (before-counts after-counts : List ℕ) → too-short (h .people) before-sums before-counts ≡ None →
+    Answers (h .people) (balance-of (book-lines h)) (balances (h .people) (book-lines h)) before-sums after-sums before-counts after-counts (all-encoded ps) r →
+    r ≡ Ok FewestAndLeast

@@ -1,7 +1,7 @@
 // Auditing payments from elsewhere: the one verdict that fits them.
 ghost use mathlib.Core.Path.{_≡_};
 ghost use Prim.Native.Nat.{_≤_};
-ghost use Rattle.audit.specs.Audited.{Audited, Turned-away};
+ghost use Rattle.audit.specs.Audited.{Answers};
 ghost use Rattle.audit.specs.Bytes.{lent};
 ghost use Rattle.audit.specs.Judged.{verdict-of};
 ghost use Rattle.balances.specs.Promise.{balances as balancesOf};
@@ -10,7 +10,6 @@ ghost use Rattle.balances.specs.View.{cents-of, people-of, sides-of};
 ghost use Rattle.book.specs.View.{held};
 ghost use Rattle.groups.specs.Sets.{everyone as everyoneOf};
 ghost use Rattle.settlement.specs.Settled.{book-lines};
-ghost use Rattle.std.specs.Results.{Cases};
 use crate::owing::all_debts;
 use crate::owing::first_left;
 use crate::owing::open_people;
@@ -29,12 +28,9 @@ pub fn audit(
     sums: &mut [i64],
     counts: &mut [u8],
 ) -> Result<Verdict, Unaudited>
-    ensures { λ r. ⌜ Cases r
-        (λ v. Audited (held (now (book .entry)) .people) (balance-of (book-lines (held (now (book .entry)))))
+    ensures { λ r. ⌜ Answers (held (now (book .entry)) .people) (balance-of (book-lines (held (now (book .entry)))))
         (balancesOf (held (now (book .entry)) .people) (book-lines (held (now (book .entry)))))
-        (now (sums .entry)) (now (sums .exit)) (now (counts .entry)) (now (counts .exit)) (lent (now (payments .entry))) v)
-        (λ e. Turned-away (held (now (book .entry)) .people)
-        (now (sums .entry)) (now (sums .exit)) (now (counts .entry)) (now (counts .exit)) (lent (now (payments .entry))) e) ⌝ }
+        (now (sums .entry)) (now (sums .exit)) (now (counts .entry)) (now (counts .exit)) (lent (now (payments .entry))) r ⌝ }
 {
     let balances = Balances::of(book);
     audit_balances(&balances, payments, sums, counts)
@@ -47,11 +43,8 @@ pub fn audit_balances(
     sums: &mut [i64],
     counts: &mut [u8],
 ) -> Result<Verdict, Unaudited>
-    ensures { λ r. ⌜ Cases r
-        (λ v. Audited (people-of (now (balances .entry))) (cents-of (now (balances .entry))) (sides-of (now (balances .entry)))
-        (now (sums .entry)) (now (sums .exit)) (now (counts .entry)) (now (counts .exit)) (lent (now (payments .entry))) v)
-        (λ e. Turned-away (people-of (now (balances .entry)))
-        (now (sums .entry)) (now (sums .exit)) (now (counts .entry)) (now (counts .exit)) (lent (now (payments .entry))) e) ⌝ }
+    ensures { λ r. ⌜ Answers (people-of (now (balances .entry))) (cents-of (now (balances .entry))) (sides-of (now (balances .entry)))
+        (now (sums .entry)) (now (sums .exit)) (now (counts .entry)) (now (counts .exit)) (lent (now (payments .entry))) r ⌝ }
 {
     if let Err(short) = room(balances, sums, counts) {
         return Err(Unaudited::Short(short));
