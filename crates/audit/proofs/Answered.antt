@@ -1,12 +1,12 @@
 -- The verdict that is worked out from a tally fits the payments.
 use denote.Ref.{RefT}
-use mathlib.Core.Path.{_≡_, refl, sym, ap, ap₂, subst, fun-ext, _∙_}
+use mathlib.Core.Path.{_≡_, refl, ap, subst, fun-ext, _∙_}
 use mathlib.Core.Bool.{Bool, not}
 use mathlib.Core.List.{List}
-use Prim.Native.Nat.{ℕ, zero, suc, _+_, _≤_, _<_}
+use Prim.Native.Nat.{ℕ, zero, suc, _+_, _<_}
 use native.Mathlib.Omega.{arith}
 use lib.Dec.{leb}
-use lib.IntN.{ℤ, pos, _+ℤ_}
+use lib.IntN.{ℤ, _+ℤ_}
 use lib.ListN.{length, getD}
 use Rattle.std.proofs.shelf.Elements.{all-weaker}
 use Rattle.std.proofs.shelf.Signed.{ints}
@@ -42,7 +42,7 @@ use Rattle.settlement.specs.Settled.{book-lines}
 use Rattle.audit.specs.Audited.{Answers, Audited}
 use Rattle.audit.specs.Bytes.{lent, payments-of}
 use Rattle.audit.specs.Judged.{first-unquit, quit, verdict-of}
-use Rattle.audit.specs.Running.{In-order, Running, is-left, net-of}
+use Rattle.audit.specs.Running.{In-order, Running, is-left}
 use Rattle.audit.specs.Told.{Told}
 use Rattle.audit.specs.Verdict.{Fits}
 use Rattle.audit.specs.declared.tally.Tally.{Tally}
@@ -80,13 +80,15 @@ module _ (b : Balances) (ps : List Payment) (net : List ℤ) (moved : ℕ) (r : 
       (leb moved (span (sides-of b .owes) (people-of b))) → Fits (sides-of b) ps v
   given-fits v e =
       let most = greatest-signed (cents-of b) (people-of b) (everyone-sum (cents-of b) (people-of b) ∙ even-there b) in
-      let among = all-weaker (In-order (people-of b)) (λ p. (p .from < people-of b) × (p .to < people-of b)) (λ p o. (o .from-there, o .to-there)) ps (r .each) in
+      let among =
+      all-weaker (In-order (people-of b)) (λ p. (p .from < people-of b) × (p .to < people-of b)) (λ p o. (o .from-there, o .to-there)) ps (r .each) in
       let fits = judged-fits (sides-of b) _ ps (sides-even b) (most .1) (most .0) among in
       rw (e, left-unquit, r .summed) fits
 
 -- with no refusal and both tables written, the verdict by the table's count of everyone
 pub answered : (b : Balances) (ps : List (RefT (List ℕ))) (t : Tally) (old-sums sums : List ℤ) (old-counts counts : List ℕ) (v : Verdict) →
-    too-short (people-of b) old-sums old-counts ≡ None → Told (people-of b) (lent ps) (Ok t) → Written (cents-of b) (people-of b) old-sums sums old-counts counts →
+    too-short (people-of b) old-sums old-counts ≡ None → Told (people-of b) (lent ps) (Ok t) →
+    Written (cents-of b) (people-of b) old-sums sums old-counts counts →
     v ≡ verdict-of (first-of (people-of b) (is-left (cents-of b) (t .net)))
     (leb (length ps + getD counts (everyone (people-of b)) 0) (still-open (sides-of b)))
     (leb (t .moved) (span (sides-of b .owes) (people-of b))) →
@@ -95,10 +97,15 @@ unfolding payments-of
 answered b ps t old-sums sums old-counts counts v room told w e =
     let g = w .counted .below (everyone (people-of b)) 0 (everyone-below (people-of b)) in
     let size : length ps ≡ length (payments-of (lent ps)) = simp length-map in
-    record { taken = rw (room, told .0) refl; written = w; fits = given-fits b (payments-of (lent ps)) (t .net) (t .moved) (told .1) v (e ∙ rw (g, size) refl) }
+    record {
+      taken = rw (room, told .0) refl;
+      written = w;
+      fits = given-fits b (payments-of (lent ps)) (t .net) (t .moved) (told .1) v (e ∙ rw (g, size) refl);
+    }
 
 -- what is answered for the balances of a book is answered for the book
-pub answers-book : (h : Held) (b : Balances) → Counted h b → (old-sums sums : List ℤ) (old-counts counts : List ℕ) (bss : List (List ℕ)) (r : Result Verdict Unaudited) →
+pub answers-book : (h : Held) (b : Balances) → Counted h b →
+    (old-sums sums : List ℤ) (old-counts counts : List ℕ) (bss : List (List ℕ)) (r : Result Verdict Unaudited) →
     Answers (people-of b) (cents-of b) (sides-of b) old-sums sums old-counts counts bss r →
     Answers (h .people) (balance-of (book-lines h)) (balances (h .people) (book-lines h)) old-sums sums old-counts counts bss r
 answers-book h b counted old-sums sums old-counts counts bss r a =

@@ -3,7 +3,6 @@ use mathlib.Core.Path.{_≡_, refl, ap, ap₂}
 use mathlib.Core.Bool.{false}
 use mathlib.Core.List.{List, [], _∷_}
 use Prim.Native.Nat.{ℕ, suc, _+_, _^_, _≤_, _<_}
-use native.Mathlib.Numerals.{add-one}
 use native.Mathlib.Omega.{arith}
 use lib.ListN.{length}
 use Rattle.std.proofs.shelf.Tests.{le-ltb, lt-leb, ne-eqb}
@@ -12,14 +11,7 @@ use Rattle.std.specs.shelf.Lists.{All}
 use Rattle.book.specs.Ledger.{Payment}
 use Rattle.audit.specs.Bytes.{eight-bytes, faulty, first-faulty, payment-of, payments-of}
 use Rattle.audit.specs.Encoded.{all-encoded, encoded}
-
--- a payment that nobody turns away, among n people
-pub record Proper (n : ℕ) (p : Payment) : Type 0 where
-  pub from-there : p .from < n
-  pub to-there : p .to < n
-  pub another : p .from ≡ p .to → ⊥
-  pub some : 0 < p .amount
-  pub small : p .amount ≤ 2 ^ 48
+use Rattle.audit.specs.Running.{In-order}
 
 -- eight bytes hold an amount
 pub amount-back : (p : Payment) → p .amount ≤ 2 ^ 48 → eight-bytes (encoded p) 2 ≡ p .amount
@@ -28,7 +20,7 @@ amount-back p l = omega arith
 pub payment-back : (p : Payment) → p .amount ≤ 2 ^ 48 → payment-of (encoded p) ≡ p
 payment-back p l = let e = amount-back p l in ap (λ a. record { from = p .from; to = p .to; amount = a }) e
 
-pub not-faulty : (n k : ℕ) (p : Payment) → k < 1024 → Proper n p → faulty n k (encoded p) ≡ false
+pub not-faulty : (n k : ℕ) (p : Payment) → k < 1024 → In-order n p → faulty n k (encoded p) ≡ false
 not-faulty n k p l h =
     let late = lt-leb 1024 k l in
     let from = lt-leb n (p .from) (h .from-there) in
@@ -40,12 +32,12 @@ not-faulty n k p l h =
     rw (late, from, to, other, e, some, small) refl
 
 -- all of them
-pub none-faulty : (n k : ℕ) (ps : List Payment) → k + length ps ≤ 1024 → All (Proper n) ps → first-faulty n k (all-encoded ps) ≡ None
+pub none-faulty : (n k : ℕ) (ps : List Payment) → k + length ps ≤ 1024 → All (In-order n) ps → first-faulty n k (all-encoded ps) ≡ None
 unfolding all-encoded
 none-faulty n k [] l h = refl
 none-faulty n k (p ∷ ps) l h = rw (not-faulty n k p (omega arith) (h .0)) (none-faulty n (suc k) ps (omega arith) (h .1))
 
-pub all-back : (n : ℕ) (ps : List Payment) → All (Proper n) ps → payments-of (all-encoded ps) ≡ ps
+pub all-back : (n : ℕ) (ps : List Payment) → All (In-order n) ps → payments-of (all-encoded ps) ≡ ps
 unfolding all-encoded payments-of
 all-back n [] h = refl
 all-back n (p ∷ ps) h = ap₂ (λ q qs. q ∷ qs) (payment-back p (h .0 .small)) (all-back n ps (h .1))

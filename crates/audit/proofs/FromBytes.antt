@@ -1,10 +1,10 @@
 -- Reading payments from their bytes, one after another.
 use denote.Ref.{RefT}
 use mathlib.Core.Path.{_≡_, refl, sym, ap, subst, _∙_}
-use mathlib.Core.Bool.{Bool, true, false}
+use mathlib.Core.Bool.{true, false}
 use mathlib.Core.List.{List, [], _∷_, _++_}
 use mathlib.Core.Logic.{inl, inr}
-use Prim.Native.Nat.{ℕ, _+_, _^_, _≤_, _<_}
+use Prim.Native.Nat.{ℕ, _+_, _≤_, _<_}
 use native.Mathlib.Numerals.{add-one}
 use native.Mathlib.Omega.{arith}
 use lib.IntN.{ℤ}
@@ -12,7 +12,6 @@ use lib.ListN.{length, getD, take, drop, length-take}
 use Rattle.std.proofs.shelf.Lists.{drop-all, drop-more, length-map, map-append, take-all, take-more}
 use Rattle.std.proofs.shelf.Tests.{cases-bool}
 use Rattle.std.proofs.shelf.Ways.{tells}
-use Rattle.std.specs.declared.option.Option.{Option}
 use Rattle.std.specs.declared.option.Option.the-variants.{Some, None}
 use Rattle.book.specs.Ledger.{Payment}
 use Rattle.audit.specs.Bytes.{faulty, first-faulty, lent, payment-of, payments-of, said}
@@ -36,7 +35,16 @@ said-none n k bs e =
 
 -- where there is no fault the payment is in order, and one of the first 1,024
 pub no-fault : (n k : ℕ) (bs : List ℕ) → faulty n k bs ≡ false → (k < 1024) × In-order n (payment-of bs)
-no-fault n k bs f = (grind (arith, tells), record { from-there = grind (arith, tells); to-there = grind (arith, tells); small = grind (arith, tells) })
+no-fault n k bs f = (
+  grind (arith, tells),
+  record {
+    from-there = grind (arith, tells);
+    to-there = grind (arith, tells);
+    another = grind (arith, tells);
+    some = grind (arith, tells);
+    small = grind (arith, tells);
+  },
+)
 
 pub in-order : (n k : ℕ) (bs : List ℕ) (p : Payment) → said n k bs ≡ Some p → In-order n p
 in-order n k bs p e = let s = said-some n k bs p e in subst (In-order n) (sym (s .1)) (no-fault n k bs (s .0) .1)
@@ -65,12 +73,13 @@ module _ (n k : ℕ) (ps : List (RefT (List ℕ))) (d : RefT (List ℕ)) (l : k 
   unfolding payments-of
   read-length = simp length-map (omega (arith, length-take k ps))
 
-  pub adds : (net : List ℤ) (moved : ℕ) (p : Payment) → n ≤ 16 → Running n (payments-of (lent (take k ps))) net moved → said n k (getD ps k d .now) ≡ Some p →
-      Running n (payments-of (lent (take (k + 1) ps))) (paid-in net p) (moved + p .amount)
+  pub adds : (net : List ℤ) (moved : ℕ) (p : Payment) → n ≤ 16 → Running n (payments-of (lent (take k ps))) net moved →
+      said n k (getD ps k d .now) ≡ Some p → Running n (payments-of (lent (take (k + 1) ps))) (paid-in net p) (moved + p .amount)
   adds net moved p crew r e =
       let s = said-some n k (getD ps k d .now) p e in
       let o = no-fault n k (getD ps k d .now) (s .0) in
-      rw (read-more, s .1) (running-push n (payments-of (lent (take k ps))) net moved r (payment-of (getD ps k d .now)) crew (omega (arith, read-length)) (o .1))
+      rw (read-more, s .1)
+      (running-push n (payments-of (lent (take k ps))) net moved r (payment-of (getD ps k d .now)) crew (omega (arith, read-length)) (o .1))
 
 -- past the last payment all are read, and there was no fault
 pub read-all : (n k : ℕ) (ps : List (RefT (List ℕ))) (net : List ℤ) (moved : ℕ) → length ps ≤ k → Running n (payments-of (lent (take k ps))) net moved →

@@ -1,12 +1,11 @@
 -- The auditor's answer to the payments that settle a book.
-use mathlib.Core.Path.{_≡_, sym, ap, subst, fun-ext, _∙_}
+use mathlib.Core.Path.{_≡_, sym, ap, subst, fun-ext}
 use mathlib.Core.List.{List, map}
 use Prim.Native.Nat.{ℕ, _≤_}
 use native.Mathlib.Omega.{arith}
 use lib.IntN.{ℤ}
 use lib.ListN.{length}
-use Rattle.std.specs.declared.option.Option.{Option}
-use Rattle.std.specs.declared.option.Option.the-variants.{Some, None}
+use Rattle.std.specs.declared.option.Option.the-variants.{None}
 use Rattle.std.specs.declared.result.Result.the-variants.{Ok, Err}
 use Rattle.std.specs.shelf.Lists.{All}
 use Rattle.balances.proofs.Signs.{one-of}
@@ -22,23 +21,23 @@ use Rattle.groups.specs.Shorts.{too-short}
 use Rattle.settlement.proofs.Few.{at-most-sixteen}
 use Rattle.settlement.specs.Paying.{settlement}
 use Rattle.settlement.specs.Settled.{book-lines}
-use Rattle.audit.proofs.Encodings.{Proper, all-back, none-faulty}
+use Rattle.audit.proofs.Encodings.{all-back, none-faulty}
 use Rattle.audit.proofs.Owings.{debt-near}
-use Rattle.audit.proofs.Settlements.{all-proper}
+use Rattle.audit.proofs.Settlements.{all-in-order}
 use Rattle.audit.proofs.Verdicts.{best-judged}
 use Rattle.audit.specs.Encoded.{all-encoded}
 use Rattle.audit.specs.Promise.{Settled-audited}
 use Rattle.audit.specs.Refused.{refusal}
-use Rattle.audit.specs.declared.verdict.Verdict.the-variants.{FewestAndLeast}
+use Rattle.audit.specs.Running.{In-order}
 
--- few payments that nobody turns away
+-- few payments, all in order
 abbrev Sent : ℕ → List Payment → Type 0
-Sent n ps = All (Proper n) ps × (length ps ≤ 16)
+Sent n ps = All (In-order n) ps × (length ps ≤ 16)
 
 crew-sent : (b : Balances) → Sent (people-of b) (settlement (people-of b) (fixedGroups (cents-of b) (people-of b)) (cents-of b))
 unfolding settlement
 crew-sent b = (
-  all-proper (people-of b) (map isIn (fixedGroups (cents-of b) (people-of b))) _ _ (λ i l h. omega (arith, one-of (cents-of b i))) (debt-near b),
+  all-in-order (people-of b) (map isIn (fixedGroups (cents-of b) (people-of b))) _ _ (λ i l h. omega (arith, one-of (cents-of b i))) (debt-near b),
   at-most-sixteen b (fixedGroups (cents-of b) (people-of b)) (groups-part b),
 )
 
@@ -50,7 +49,8 @@ book-sent h b counted =
     (subst (λ f. Sent (people-of b) (settlement (people-of b) (fixedGroups f (people-of b)) f)) numbers (crew-sent b))
 
 -- where both tables have room such payments are not refused
-not-refused : (n : ℕ) (sums : List ℤ) (counts : List ℕ) (ps : List Payment) → too-short n sums counts ≡ None → Sent n ps → refusal n sums counts (all-encoded ps) ≡ None
+not-refused : (n : ℕ) (sums : List ℤ) (counts : List ℕ) (ps : List Payment) → too-short n sums counts ≡ None → Sent n ps →
+    refusal n sums counts (all-encoded ps) ≡ None
 not-refused n sums counts ps room sent = let none = none-faulty n 0 ps (omega arith) (sent .0) in rw (room, none)
 
 pub settled-audited : Settled-audited

@@ -1,20 +1,18 @@
 -- The payments that settle a crew go from one person to another, and none is of 0 or more than what somebody owes.
 use mathlib.Core.Path.{_≡_, refl, sym, ap, subst}
-use mathlib.Core.Bool.{Bool, true, _&&_}
+use mathlib.Core.Bool.{Bool}
 use mathlib.Core.List.{List, [], _∷_}
 use mathlib.Core.Logic.{inl, inr}
 use Prim.Native.Nat.{ℕ, zero, suc, _^_, _≤_, _<_, min}
 use native.Mathlib.Omega.{arith}
-use lib.Dec.{ltb}
 use Rattle.std.proofs.shelf.Elements.{all-append}
 use Rattle.std.proofs.shelf.Tests.{and-parts, cases-lt, ltb-true}
 use Rattle.std.specs.shelf.Lists.{All}
-use Rattle.book.specs.Ledger.{Payment}
 use Rattle.settlement.proofs.Firsts.{first-passes}
 use Rattle.settlement.proofs.Paid.{One-side}
 use Rattle.settlement.proofs.Steps.{payments-end, payments-more}
 use Rattle.settlement.specs.Paying.{all-payments, first, group-payments, has, less-at}
-use Rattle.audit.proofs.Encodings.{Proper}
+use Rattle.audit.specs.Running.{In-order}
 
 -- who is the first to have something has it
 has-some : (n : ℕ) (m : ℕ → Bool) (f : ℕ → ℕ) → first (has m f) n < n → 0 < f (first (has m f) n)
@@ -28,21 +26,22 @@ less-le : (f : ℕ → ℕ) (p a i m : ℕ) → f i ≤ m → less-at f p a i �
 less-le f p a i m l = grind arith
 
 module _ (n : ℕ) (m : ℕ → Bool) where
-  pub group-proper : (k : ℕ) (owes owed : ℕ → ℕ) → One-side n owes owed → ((i : ℕ) → owes i ≤ 2 ^ 48) → All (Proper n) (group-payments k n m owes owed)
+  group-in-order : (k : ℕ) (owes owed : ℕ → ℕ) → One-side n owes owed → ((i : ℕ) → owes i ≤ 2 ^ 48) →
+      All (In-order n) (group-payments k n m owes owed)
   unfolding group-payments
-  group-proper zero owes owed one few = tt
-  group-proper (suc k) owes owed one few =
+  group-in-order zero owes owed one few = tt
+  group-in-order (suc k) owes owed one few =
       let p : ℕ = first (has m owes) n in
       let q : ℕ = first (has m owed) n in
       let a : ℕ = min (owes p) (owed q) in
       elim (cases-lt p n) [
-        | inr l ↦ subst (All (Proper n)) (sym (payments-end k n m owes owed (inl l))) tt
+        | inr l ↦ subst (All (In-order n)) (sym (payments-end k n m owes owed (inl l))) tt
         | inl pl ↦ elim (cases-lt q n) [
-          | inr l ↦ subst (All (Proper n)) (sym (payments-end k n m owes owed (inr l))) tt
+          | inr l ↦ subst (All (In-order n)) (sym (payments-end k n m owes owed (inr l))) tt
           | inl ql ↦
               let x = has-some n m owes pl in
               let y = has-some n m owed ql in
-              subst (All (Proper n)) (sym (payments-more k n m owes owed p q refl refl pl ql)) (
+              subst (All (In-order n)) (sym (payments-more k n m owes owed p q refl refl pl ql)) (
                 record {
                   from-there = pl;
                   to-there = ql;
@@ -50,14 +49,16 @@ module _ (n : ℕ) (m : ℕ → Bool) where
                   some = omega arith;
                   small = omega (arith, few p);
                 },
-                group-proper k (less-at owes p a) (less-at owed q a) (one-side-less n owes owed p q a one) (λ i. less-le owes p a i (2 ^ 48) (few i)),
+                group-in-order k (less-at owes p a) (less-at owed q a) (one-side-less n owes owed p q a one) (λ i. less-le owes p a i (2 ^ 48) (few i)),
               )
         ]
       ]
 
 -- of all groups
-pub all-proper : (n : ℕ) (ms : List (ℕ → Bool)) (owes owed : ℕ → ℕ) → One-side n owes owed → ((i : ℕ) → owes i ≤ 2 ^ 48) → All (Proper n) (all-payments n ms owes owed)
+pub all-in-order : (n : ℕ) (ms : List (ℕ → Bool)) (owes owed : ℕ → ℕ) → One-side n owes owed → ((i : ℕ) → owes i ≤ 2 ^ 48) →
+    All (In-order n) (all-payments n ms owes owed)
 unfolding all-payments
-all-proper n [] owes owed one few = tt
-all-proper n (m ∷ ms) owes owed one few =
-    all-append (Proper n) (group-payments n n m owes owed) (all-payments n ms owes owed) (group-proper n m n owes owed one few) (all-proper n ms owes owed one few)
+all-in-order n [] owes owed one few = tt
+all-in-order n (m ∷ ms) owes owed one few =
+    all-append (In-order n) (group-payments n n m owes owed) (all-payments n ms owes owed)
+    (group-in-order n m n owes owed one few) (all-in-order n ms owes owed one few)

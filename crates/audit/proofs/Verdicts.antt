@@ -23,7 +23,7 @@ use Rattle.settlement.proofs.Numbered.{groups-settle}
 use Rattle.settlement.proofs.Firsts.{first-passes, first-least}
 use Rattle.audit.specs.declared.verdict.Verdict.{Verdict}
 use Rattle.audit.specs.declared.verdict.Verdict.the-variants.{FewestAndLeast, FewestOnly, LeastOnly, SettlesOnly, NotQuit}
-use Rattle.audit.specs.Judged.{first-unquit, graded, is-few, is-little, judged, quit, verdict-of}
+use Rattle.audit.specs.Judged.{first-unquit, graded, is-few, is-little, quit, verdict-of}
 use Rattle.audit.specs.Promise.{Best-judged, Judged-fits, Only-one, Says-fewest, Says-least}
 use Rattle.audit.specs.Verdict.{Among, Fewest, Fits, Least, Quit, Unquit, says-fewest, says-least}
 

@@ -51,6 +51,7 @@ abbrev pub Settled-audited : Type 0
 Settled-audited =
     (h : Held) (b : sheet.Balances) → Counted h b → (ps : List Payment) (old-sums sums : List ℤ) (old-counts counts : List ℕ) →
     Settled-by (h .people) (balance-of (book-lines h)) (balances (h .people) (book-lines h)) old-sums sums old-counts counts ps →
-    (r : Result Verdict Unaudited) (before-sums after-sums : List ℤ) (before-counts after-counts : List ℕ) → too-short (h .people) before-sums before-counts ≡ None →
+    (r : Result Verdict Unaudited) (before-sums after-sums : List ℤ) (before-counts after-counts : List ℕ) →
+    too-short (h .people) before-sums before-counts ≡ None →
     Answers (h .people) (balance-of (book-lines h)) (balances (h .people) (book-lines h)) before-sums after-sums before-counts after-counts (all-encoded ps) r →
     r ≡ Ok FewestAndLeast

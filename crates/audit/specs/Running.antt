@@ -30,6 +30,8 @@ paid-in t p = lowered (raised t (p .from) (p .amount)) (p .to) (p .amount)
 pub record In-order (n : ℕ) (p : Payment) : Type 0 where
   pub from-there : p .from < n
   pub to-there : p .to < n
+  pub another : p .from ≡ p .to → ⊥
+  pub some : 0 < p .amount
   pub small : p .amount ≤ 2 ^ 48
 
 -- a table and a sum of at most 1,024 payments in order among n people

@@ -1,5 +1,5 @@
 -- Everything that the verdict is worked out from is what its definition names.
-use mathlib.Core.Path.{_≡_, ap, subst, _∙_}
+use mathlib.Core.Path.{ap, subst, _∙_}
 use Rattle.groups.specs.Sets.{everyone}
 use Rattle.std.specs.declared.result.Result.the-variants.{Ok}
 use Rattle.audit.proofs.Answered.{answered}

@@ -1,12 +1,7 @@
 -- Nobody owes more than 2^48, so that sixteen debts fit.
 use mathlib.Core.Path.{_≡_, refl}
-use Prim.Native.Nat.{_+_, _≤_, _^_}
-use native.Mathlib.Numerals.{add-one}
 use native.Mathlib.Omega.{arith}
 use borrow.Author.Needs.{needs}
-use Rattle.std.proofs.shelf.Signed.{ints}
-use Rattle.balances.proofs.Holds.{near-at}
-use Rattle.balances.proofs.Signs.{debt-credit, one-of}
 use Rattle.balances.specs.Signed.{debt}
 use Rattle.balances.specs.View.{cents-of, sides-of}
 use Rattle.shares.specs.Span.{span}

@@ -1,9 +1,8 @@
 -- A person counts where its balance is not 0.
 use mathlib.Core.Path.{_≡_, refl}
-use Prim.Native.Nat.{ℕ, _+_}
+use Prim.Native.Nat.{_+_}
 use native.Mathlib.Omega.{arith}
 use borrow.Author.Needs.{needs}
-use lib.Dec.{ltb}
 use lib.IntN.{pos}
 use Rattle.balances.specs.View.{cents-of, people-of}
 use Rattle.groups.specs.Groups.{still-open}

@@ -1,5 +1,5 @@
 -- Each payment read is one more in the table and the sum; the first that says nothing is the first fault.
-use mathlib.Core.Path.{_≡_, refl, sym, ap, _∙_}
+use mathlib.Core.Path.{refl, sym, ap, _∙_}
 use native.Mathlib.Omega.{arith}
 use borrow.Author.Needs.{needs}
 use Rattle.std.specs.Options.{mapped}
@@ -35,8 +35,11 @@ add-moved c =
 pub loop-at-again : need.loop-at-again
 loop-at-again c =
     let said = sym (c .in-Some .ensures tt) in
-    let more = adds (c .args .people) (c .loop-at .at) (c .args .payments .now) _ (c .loop-at-test .taken) (c .loop-at .net) (c .loop-at .moved) _ (c .pre) (c .loop-at .inv .0) said in
-    let on = goes-on (c .args .people) (c .loop-at .at) (c .args .payments .now) _ (c .loop-at-test .taken) _ said in
+    let n = c .args .people in
+    let k = c .loop-at .at in
+    let ps = c .args .payments .now in
+    let more = adds n k ps _ (c .loop-at-test .taken) (c .loop-at .net) (c .loop-at .moved) _ (c .pre) (c .loop-at .inv .0) said in
+    let on = goes-on n k ps _ (c .loop-at-test .taken) _ said in
     (rw (c .pay .ensures) more, sym on ∙ c .loop-at .inv .1)
 
 pub returns : need.returns
