@@ -55,7 +55,8 @@ fn report_lines(
     lines: &[u8],
     text: &mut String,
 ) -> Result<(), AllocError>
-    ensures { λ r. ⌜ made r (λ _. Told (held (now (book .entry))) (pieces (now (lines .entry))) (string-bytes (now (text .entry))) (string-bytes (now (text .exit)))) ⌝ }
+    ensures { λ r. ⌜ made r (λ _.
+        Told (held (now (book .entry))) (pieces (now (lines .entry))) (string-bytes (now (text .entry))) (string-bytes (now (text .exit)))) ⌝ }
 {
     read_lines(book, lines, text)?;
     close_book(heap, book, text)?;
@@ -64,7 +65,9 @@ fn report_lines(
 
 // Writes what is said of a book after the answers to its lines: the balances, and the payments that settle them.
 fn close_book(heap: Global, book: &Book, text: &mut String) -> Result<(), AllocError>
-    ensures { λ r. ⌜ made r (λ _. Closed (held (now (book .entry)) .people) (book-lines (held (now (book .entry)))) (string-bytes (now (text .entry))) (string-bytes (now (text .exit)))) ⌝ }
+    ensures { λ r. ⌜ made r (λ _.
+        Closed (held (now (book .entry)) .people) (book-lines (held (now (book .entry))))
+        (string-bytes (now (text .entry))) (string-bytes (now (text .exit)))) ⌝ }
 {
     write_balances(&Balances::of(book), text)?;
     let payments = payments_of(heap, book)?;
