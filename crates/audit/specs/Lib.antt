@@ -1,0 +1,9 @@
+pub mod Audited
+pub mod Bytes
+pub mod Judged
+pub mod Promise
+pub mod Refused
+pub mod Running
+pub mod Told
+pub mod Verdict
+pub mod Words
