@@ -1,3 +1,4 @@
+pub mod Audits
 pub mod Payments
 pub mod Pieces
 pub mod Reports

@@ -1,4 +1,5 @@
 pub mod Answers
+pub mod Auditing
 pub mod Payments
 pub mod Pieces
 pub mod Report

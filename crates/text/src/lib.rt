@@ -25,7 +25,9 @@ use std::alloc::Global;
 use writing::write_line;
 
 pub mod answer;
+pub mod auditing;
 pub mod lines;
+pub mod outcome;
 pub mod owing;
 pub mod paying;
 pub mod side;
@@ -33,7 +35,7 @@ pub mod side;
 mod tests;
 mod writing;
 
-const ROOM: usize = 512;
+pub(crate) const ROOM: usize = 512;
 
 // The report on a book: one byte for the number of people, and then the lines. The error is want of memory.
 pub fn report(heap: Global, input: &[u8]) -> Result<String, AllocError>
@@ -76,7 +78,7 @@ fn close_book(heap: Global, book: &Book, text: &mut String) -> Result<(), AllocE
 }
 
 // The number of people, which is 0 where there is no byte at all, and the bytes of the lines after it.
-fn people_and_lines(input: &[u8]) -> (u8, &[u8])
+pub(crate) fn people_and_lines(input: &[u8]) -> (u8, &[u8])
     ensures people { λ r. ⌜ r .0 ≡ people-in (now (input .entry)) ⌝ }
     ensures lines { λ r. ⌜ now (r .1) ≡ drop 1 (now (input .entry)) ⌝ }
 {

@@ -4,8 +4,8 @@ ghost use Rattle.book.specs.View.{held};
 ghost use Rattle.std.specs.Of.String.{string-bytes};
 ghost use Rattle.std.specs.Vec.{made};
 ghost use Rattle.text.specs.Answers.{reply-of};
-ghost use Rattle.text.specs.Pieces.{piece};
-ghost use Rattle.text.specs.Run.{Read, after, reply};
+ghost use Rattle.text.specs.Pieces.{piece, pieces};
+ghost use Rattle.text.specs.Run.{Read, after, book-after, reply};
 use crate::answer::Answer;
 use crate::answer::AnswerDisplay;
 use crate::writing::write_line;
@@ -25,6 +25,18 @@ pub fn read_lines(book: &mut Book, lines: &[u8], text: &mut String) -> Result<()
         rest = &left[length.min(left.len())..];
     }
     Ok(())
+}
+
+// Reads every line into the book; the answers are let go.
+pub(crate) fn add_lines(book: &mut Book, lines: &[u8])
+    ensures { λ _. ⌜ held (now (book .exit)) ≡ book-after (held (now (book .entry))) (pieces (now (lines .entry))) ⌝ }
+{
+    let mut rest = lines;
+    while let Some((length, left)) = rest.split_first() {
+        let length = *length as usize;
+        let _ = answer_line(book, length, left);
+        rest = &left[length.min(left.len())..];
+    }
 }
 
 // Adds the line of that length to the book and answers it; a line is cut where fewer bytes are left.

@@ -19,7 +19,7 @@ use std::alloc::Global;
 use std::fmt;
 
 // Sixteen people have so many sets.
-const SETS: usize = 1 << 16;
+pub(crate) const SETS: usize = 1 << 16;
 
 // A payment as a line says it, as `1 pays 0 23`.
 #[derive(Clone, Copy)]

@@ -1,4 +1,5 @@
 // A few inputs and what the rules say of them; crate `cases` has many more.
+use crate::auditing::verdict;
 use crate::report;
 use std::test::*;
 
@@ -51,4 +52,134 @@ fn said_of_each_input(rt: LibcRuntime) -> Result<(), Fail> {
         check_eq(text.as_str(), *expected)?;
     }
     Ok(())
+}
+
+// A book of three: 0 is owed 57, 1 owes 23 and 2 owes 34.
+static THREE: [u8; 22] = [
+    3,
+    12,
+    1,
+    0,
+    100,
+    0,
+    0,
+    0,
+    1,
+    0,
+    1,
+    0,
+    1,
+    0,
+    7,
+    2,
+    1,
+    0,
+    10,
+    0,
+    0,
+    0,
+];
+
+static AUDITS: [(&[u8], &str); 6] = [
+    // 1 pays 0 23, 2 pays 0 34
+    (
+        &[
+            10,
+            1,
+            0,
+            23,
+            0,
+            0,
+            0,
+            0,
+            0,
+            0,
+            0,
+            10,
+            2,
+            0,
+            34,
+            0,
+            0,
+            0,
+            0,
+            0,
+            0,
+            0,
+        ],
+        "fewest and least\n",
+    ),
+    // the first alone leaves 34 for 0 to get
+    (&[10, 1, 0, 23, 0, 0, 0, 0, 0, 0, 0], "0 is not quit\n"),
+    (&[], "0 is not quit\n"),
+    // nine bytes
+    (
+        &[9, 1, 0, 23, 0, 0, 0, 0, 0, 0],
+        "payment refused 12 at 0\n",
+    ),
+    // the second is cut: by its last byte, and ten bytes of eleven
+    (
+        &[
+            10,
+            1,
+            0,
+            23,
+            0,
+            0,
+            0,
+            0,
+            0,
+            0,
+            0,
+            10,
+            2,
+            0,
+            34,
+            0,
+            0,
+            0,
+            0,
+            0,
+            0,
+        ],
+        "payment refused 12 at 1\n",
+    ),
+    (
+        &[
+            10,
+            1,
+            0,
+            23,
+            0,
+            0,
+            0,
+            0,
+            0,
+            0,
+            0,
+            11,
+            2,
+            0,
+            34,
+            0,
+            0,
+            0,
+            0,
+            0,
+            0,
+            0,
+        ],
+        "payment refused 12 at 1\n",
+    ),
+];
+
+#[test]
+fn verdict_on_payments(rt: LibcRuntime) -> Result<(), Fail> {
+    for (payments, expected) in &AUDITS {
+        let text = verdict(rt.alloc(), &THREE, payments)?;
+        check_eq(text.as_str(), *expected)?;
+    }
+    // a book of nobody, whatever the payments are
+    let text = verdict(rt.alloc(), &[0], &[9])?;
+    check_eq(text.as_str(), "refused 1 at 0\n")
 }
