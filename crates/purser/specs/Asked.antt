@@ -6,7 +6,7 @@ use lib.Chars.{codes}
 use lib.Dec.{eqb}
 use lib.ListN.{getD}
 use Rattle.purser.specs.declared.command.Command.{Command}
-use Rattle.purser.specs.declared.command.Command.the-variants.{File, Help, Input, Unknown, Version}
+use Rattle.purser.specs.declared.command.Command.the-variants.{Audit, File, Help, Input, NoPayments, Unknown, Version}
 use Rattle.std.specs.Of.String.{string-bytes}
 use Rattle.std.specs.declared.alloc.Global.{Global}
 use Rattle.std.specs.declared.option.Option.{Option}
@@ -32,12 +32,33 @@ asked-by word =
 abbrev pub but-followed : Command → Word → Command
 but-followed Input second = Unknown second
 but-followed (File name) second = Unknown second
+but-followed (Audit payments book) second = Unknown second
+but-followed NoPayments second = Unknown second
 but-followed Help second = Unknown second
 but-followed Version second = Unknown second
 but-followed (Unknown word) second = Unknown word
 
+-- a word that no other may follow
+abbrev pub asked-alone : Word → Option Word → Command
+asked-alone word None = asked-by word
+asked-alone word (Some second) = but-followed (asked-by word) second
+
+-- a file's name where it is no option
+abbrev pub unless-option : Word → Command → Command
+unless-option word c = cond (is-option (string-bytes word)) (Unknown word) c
+
+-- after a file of payments: a file of the book or none, and nothing more
+abbrev pub audit-of : Word → Option Word → Option Word → Command
+audit-of payments None more = Audit payments None
+audit-of payments (Some book) None = unless-option book (Audit payments (Some book))
+audit-of payments (Some book) (Some word) = unless-option book (Unknown word)
+
+-- after --audit: a file of payments, and what may follow it
+abbrev pub audit-after : Option Word → Option Word → Option Word → Command
+audit-after None book more = NoPayments
+audit-after (Some payments) book more = unless-option payments (audit-of payments book more)
+
 -- no word asks for standard input
-abbrev pub asked : Option Word → Option Word → Command
-asked None second = Input
-asked (Some word) None = asked-by word
-asked (Some word) (Some second) = but-followed (asked-by word) second
+abbrev pub asked : Option Word → Option Word → Option Word → Option Word → Command
+asked None second third fourth = Input
+asked (Some word) second third fourth = cond (sameBytes (string-bytes word) (codes "--audit")) (audit-after second third fourth) (asked-alone word second)

@@ -1,6 +1,6 @@
 // What the program's arguments ask for.
 ghost use mathlib.Core.Path.{_≡_};
-ghost use Rattle.purser.specs.Asked.{asked, asked-by, is-option};
+ghost use Rattle.purser.specs.Asked.{asked, asked-alone, asked-by, audit-after, audit-of, is-option};
 
 #[derive(Drop)]
 pub enum Command {
@@ -8,20 +8,92 @@ pub enum Command {
     Input,
     // a report on a file
     File(String),
+    // the verdict on the payments of a file, for the book of a file or of standard input
+    Audit {
+        payments: String,
+        book: Option<String>,
+    },
+    // an audit without a file of payments
+    NoPayments,
     Help,
     Version,
     // an argument that means nothing here
     Unknown(String),
 }
 
-// By the first two arguments, if there are any.
-pub fn asked_for(first: Option<String>, second: Option<String>) -> Command
-    ensures { λ r. ⌜ r ≡ asked first second ⌝ }
+// By the first four arguments, if there are any.
+pub fn asked_for(
+    first: Option<String>,
+    second: Option<String>,
+    third: Option<String>,
+    fourth: Option<String>,
+) -> Command
+    ensures { λ r. ⌜ r ≡ asked first second third fourth ⌝ }
 {
-    match (first, second) {
-        (None, _) => Command::Input,
-        (Some(word), None) => asked_by(word),
-        (Some(word), Some(second)) => match asked_by(word) {
+    match first {
+        None => Command::Input,
+        Some(word) => {
+            if word.as_str() == "--audit" {
+                audit_after(second, third, fourth)
+            } else {
+                asked_alone(word, second)
+            }
+        }
+    }
+}
+
+// By the words after --audit: a file of payments, a file of the book if there is one, and nothing more.
+fn audit_after(payments: Option<String>, book: Option<String>, more: Option<String>) -> Command
+    ensures { λ r. ⌜ r ≡ audit-after payments book more ⌝ }
+{
+    match payments {
+        None => Command::NoPayments,
+        Some(payments) => {
+            if is_option(&payments) {
+                Command::Unknown(payments)
+            } else {
+                audit_of(payments, book, more)
+            }
+        }
+    }
+}
+
+// By a file of payments and the words after it.
+fn audit_of(payments: String, book: Option<String>, more: Option<String>) -> Command
+    ensures { λ r. ⌜ r ≡ audit-of payments book more ⌝ }
+{
+    match (book, more) {
+        (None, _) => Command::Audit {
+            payments,
+            book: None,
+        },
+        (Some(book), None) => {
+            if is_option(&book) {
+                Command::Unknown(book)
+            } else {
+                Command::Audit {
+                    payments,
+                    book: Some(book),
+                }
+            }
+        }
+        (Some(book), Some(word)) => {
+            if is_option(&book) {
+                Command::Unknown(book)
+            } else {
+                Command::Unknown(word)
+            }
+        }
+    }
+}
+
+// By a word that no other may follow.
+fn asked_alone(word: String, second: Option<String>) -> Command
+    ensures { λ r. ⌜ r ≡ asked-alone word second ⌝ }
+{
+    match second {
+        None => asked_by(word),
+        Some(second) => match asked_by(word) {
             Command::Unknown(word) => Command::Unknown(word),
             _ => Command::Unknown(second),
         },

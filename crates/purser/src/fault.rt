@@ -6,6 +6,7 @@ use std::io;
 pub enum Fault {
     Arguments(io::Error),
     UnknownArgument(String),
+    NoPayments,
     File(String, io::Error),
     Input(io::Error),
     Output(io::Error),
@@ -20,10 +21,16 @@ pub impl fmt::Display for Fault as FaultDisplay {
             Fault::UnknownArgument(word) => {
                 write!(f, "unknown argument: {word} (--help says which there are)")
             }
+            Fault::NoPayments => {
+                write!(
+                    f,
+                    "--audit wants the name of a file of payments (--help says how)"
+                )
+            }
             Fault::File(name, why) => write!(f, "cannot read {name}: {why}"),
             Fault::Input(why) => write!(f, "cannot read standard input: {why}"),
             Fault::Output(why) => write!(f, "cannot write to standard output: {why}"),
-            Fault::Memory => write!(f, "too little memory for the report"),
+            Fault::Memory => write!(f, "too little memory"),
         }
     }
 }
