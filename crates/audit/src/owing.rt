@@ -3,11 +3,12 @@ ghost use mathlib.Core.Path.{_≡_};
 ghost use Prim.Native.Nat.{ℕ, _^_, _≤_};
 ghost use lib.IntN.{natAbs};
 ghost use Rattle.audit.specs.Running.{is-left};
-ghost use Rattle.balances.specs.Signed.{at-person, debt};
+ghost use Rattle.balances.specs.Signed.{at-person};
 ghost use Rattle.balances.specs.View.{cents-of, people-of, sides-of};
 ghost use Rattle.groups.specs.Groups.{still-open};
 ghost use Rattle.settlement.specs.Amounts.{first-of};
 ghost use Rattle.shares.specs.Span.{span};
+use balances::amounts::debt;
 use balances::sheet::Balances;
 
 // The smallest person who is left with something, where each pays so much more than it gets.
@@ -45,11 +46,4 @@ pub(crate) fn all_debts(balances: &Balances) -> u64
         sum += debt(balances.balance(person));
     }
     sum
-}
-
-// What a person with this number of cents owes.
-fn debt(cents: i64) -> u64
-    ensures { λ r. ⌜ r ≡ debt cents ⌝ }
-{
-    if cents < 0 { cents.unsigned_abs() } else { 0 }
 }

@@ -30,14 +30,6 @@ pub signed-even : (f : ℕ → ℤ) (n : ℕ) → spanZ f n ≡ pos 0 → Even (
 signed-even f n e =
     record { one-side = λ i l h. omega (arith, one-of (f i)); sum = omega (arith, ints, signed-span f n) }
 
--- a debt of at least a, less a
-pub debt-paid : (z : ℤ) (a : ℕ) → a ≤ debt z → (debt (z +ℤ pos a) ≡ debt z - a) × (credit (z +ℤ pos a) ≡ credit z)
-debt-paid z a h = omega (arith, ints, debt-credit z, debt-credit (z +ℤ pos a), one-of z, one-of (z +ℤ pos a))
-
--- a credit of at least a, less a
-pub credit-paid : (z : ℤ) (a : ℕ) → a ≤ credit z → (credit (z -ℤ pos a) ≡ credit z - a) × (debt (z -ℤ pos a) ≡ debt z)
-credit-paid z a h = omega (arith, ints, debt-credit z, debt-credit (z -ℤ pos a), one-of z, one-of (z -ℤ pos a))
-
 -- what is given less what is had, as the side that is left
 pub difference-sides : (g h : ℕ) → (debt (pos g -ℤ pos h) ≡ h - g) × (credit (pos g -ℤ pos h) ≡ g - h)
 difference-sides g h = omega (arith, ints, debt-credit (pos g -ℤ pos h), one-of (pos g -ℤ pos h))

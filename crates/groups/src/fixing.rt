@@ -20,7 +20,7 @@ use std::alloc::AllocError;
 use std::alloc::Global;
 
 // The people who owe or are owed something.
-pub fn open_people(balances: &[i64]) -> u32
+pub(crate) fn open_people(balances: &[i64]) -> u32
     requires few { ⌜ length (now balances) ≤ 16 ⌝ }
     ensures { λ r. ⌜ r ≡ openOf (at-person (now (balances .entry))) (length (now (balances .entry))) ⌝ }
 {
@@ -34,7 +34,7 @@ pub fn open_people(balances: &[i64]) -> u32
 }
 
 // Does `part`, which has the smallest person left, sum to 0 and leave a count that is one less?
-pub fn reaches(balances: &[i64], sums: &[i64], counts: &[u8], left: u32, part: u32) -> bool
+pub(crate) fn reaches(balances: &[i64], sums: &[i64], counts: &[u8], left: u32, part: u32) -> bool
     requires few { ⌜ length (now balances) ≤ 16 ⌝ }
     requires small { ⌜ left < 2 ^ length (now balances) ⌝ }
     requires within { ⌜ isPart part left ≡ true ⌝ }
@@ -50,7 +50,7 @@ pub fn reaches(balances: &[i64], sums: &[i64], counts: &[u8], left: u32, part: u
 
 // The least group of the smallest person left with which the greatest number is reached.
 // What it leaves runs through the subsets of the others, the largest first, so that the group grows as a number.
-pub fn choose(balances: &[i64], sums: &[i64], counts: &[u8], left: u32) -> u32
+pub(crate) fn choose(balances: &[i64], sums: &[i64], counts: &[u8], left: u32) -> u32
     requires few { ⌜ length (now balances) ≤ 16 ⌝ }
     requires some { ⌜ 0 < left ⌝ }
     requires small { ⌜ left < 2 ^ length (now balances) ⌝ }
@@ -72,7 +72,7 @@ pub fn choose(balances: &[i64], sums: &[i64], counts: &[u8], left: u32) -> u32
 }
 
 // Adds the groups of the people left, the group of the smallest person first, then those of the people whom it leaves.
-pub fn fix(balances: &[i64], sums: &[i64], counts: &[u8], left: u32, groups: &mut Vec<u32>)
+pub(crate) fn fix(balances: &[i64], sums: &[i64], counts: &[u8], left: u32, groups: &mut Vec<u32>)
     requires few { ⌜ length (now balances) ≤ 16 ⌝ }
     requires small { ⌜ left < 2 ^ length (now balances) ⌝ }
     requires even { ⌜ setSum (now balances) left ≡ pos 0 ⌝ }
@@ -92,7 +92,7 @@ pub fn fix(balances: &[i64], sums: &[i64], counts: &[u8], left: u32, groups: &mu
 }
 
 // The groups of people who are even together, and both tables filled; memory for the groups is reserved before the first write.
-pub fn group_numbers(
+pub(crate) fn group_numbers(
     heap: Global,
     balances: &[i64],
     sums: &mut [i64],

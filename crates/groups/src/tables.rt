@@ -12,14 +12,14 @@ use crate::sets::take_out;
 use crate::sets::without_lowest;
 
 // Does a person with this balance neither owe nor get anything?
-pub fn is_zero(balance: i64) -> bool
+pub(crate) fn is_zero(balance: i64) -> bool
     ensures { λ r. ⌜ r ≡ isZero balance ⌝ }
 {
     balance == 0
 }
 
 // The balances of the people of a set together, worked out from nothing.
-pub fn sum_of(balances: &[i64], set: u32) -> i64
+pub(crate) fn sum_of(balances: &[i64], set: u32) -> i64
     requires few { ⌜ length (now balances) ≤ 16 ⌝ }
     requires moderate { ⌜ Moderate (now balances) ⌝ }
     ensures { λ r. ⌜ r ≡ setSum (now (balances .entry)) set ⌝ }
@@ -34,7 +34,7 @@ pub fn sum_of(balances: &[i64], set: u32) -> i64
 }
 
 // The greatest count of the set with one of its `n` people taken out.
-pub fn most_of(counts: &[u8], n: u32, set: u32) -> u8
+pub(crate) fn most_of(counts: &[u8], n: u32, set: u32) -> u8
     requires few { ⌜ n ≤ 16 ⌝ }
     requires room { ⌜ set ≤ length (now counts) ⌝ }
     ensures { λ r. ⌜ r ≡ most (now (counts .entry)) set n ⌝ }
@@ -49,7 +49,7 @@ pub fn most_of(counts: &[u8], n: u32, set: u32) -> u8
 }
 
 // The count of the set from its sum and the counts of the sets before it.
-pub fn count_of(balances: &[i64], sum: i64, counts: &[u8], set: u32) -> u8
+pub(crate) fn count_of(balances: &[i64], sum: i64, counts: &[u8], set: u32) -> u8
     requires few { ⌜ length (now balances) ≤ 16 ⌝ }
     requires small { ⌜ set < 2 ^ length (now balances) ⌝ }
     requires summed { ⌜ sum ≡ setSum (now balances) set ⌝ }
@@ -74,7 +74,7 @@ pub fn count_of(balances: &[i64], sum: i64, counts: &[u8], set: u32) -> u8
 }
 
 // Fills both tables with the sum and the count of every set of the people; entries past those stay as they are.
-pub fn fill(balances: &[i64], sums: &mut [i64], counts: &mut [u8])
+pub(crate) fn fill(balances: &[i64], sums: &mut [i64], counts: &mut [u8])
     requires few { ⌜ length (now balances) ≤ 16 ⌝ }
     requires moderate { ⌜ Moderate (now balances) ⌝ }
     requires sums_room { ⌜ 2 ^ length (now balances) ≤ length (now sums) ⌝ }

@@ -10,7 +10,6 @@ pub mod Numbered
 pub mod Best
 pub mod Books
 pub mod Carried
-pub mod Partings
 pub mod Steps
 pub mod Filled
 pub mod Read

@@ -4,6 +4,8 @@ ghost use Prim.Native.Nat.{ℕ};
 ghost use Rattle.balances.specs.Signed.{debt, credit};
 ghost use Rattle.balances.specs.View.{cents-of};
 ghost use Rattle.settlement.specs.Amounts.{amount-at};
+use balances::amounts::credit;
+use balances::amounts::debt;
 use balances::sheet::Balances;
 
 const MAX_PEOPLE: usize = 16;
@@ -28,18 +30,4 @@ pub(crate) fn credits(balances: &Balances) -> [u64; 16]
         amounts[person as usize] = credit(balances.balance(person));
     }
     amounts
-}
-
-// What a person with this number of cents owes.
-fn debt(cents: i64) -> u64
-    ensures { λ r. ⌜ r ≡ debt cents ⌝ }
-{
-    if cents < 0 { cents.unsigned_abs() } else { 0 }
-}
-
-// What a person with this number of cents is owed.
-fn credit(cents: i64) -> u64
-    ensures { λ r. ⌜ r ≡ credit cents ⌝ }
-{
-    if cents > 0 { cents.unsigned_abs() } else { 0 }
 }

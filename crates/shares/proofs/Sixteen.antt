@@ -12,10 +12,6 @@ pub getD-all-shares : (b : Bill) (i : ℕ) → i < 16 → getD (all-shares b) i 
 unfolding all-shares
 getD-all-shares b i l = getD-map-counting (share b) 0 16 i i 0 l (omega arith)
 
-pub length-all-shares : (b : Bill) → length (all-shares b) ≡ 16
-unfolding all-shares
-length-all-shares b = refl
-
 -- sixteen numbers, each the share of its place, are all shares, whoever paid
 pub all-shares-from :
     (payer amount : ℕ) (weights shares : List ℕ) → length shares ≡ 16 →

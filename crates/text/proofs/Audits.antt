@@ -96,10 +96,6 @@ judged-found bs ls ps n h h′ bss o people rest crew begins ends cut j =
     subst (λ a. Judged-as (people-in bs) a (payments-in ps) o) (answered-lines start (pieces-in bs)) by-people in
     subst (λ t. Found-by t (people-in bs) (answered-in bs) (payments-in ps) o) (sym there) by-lines
 
--- so many people have no book
-pub refused-found : (bs ps : List ℕ) → crew-size (people-in bs) ≡ false → Found bs ps NoCrew
-refused-found bs ps wrong = subst (λ t. Found-by t (people-in bs) (answered-in bs) (payments-in ps) NoCrew) (sym wrong) refl
-
 -- no two outcomes
 one-judged : (n : ℕ) (ls : List Line) (bss : List (List ℕ)) (o p : Outcome) → Judged-as n ls bss o → Judged-as n ls bss p → o ≡ p
 one-judged n ls bss NoCrew p j k = absurd j
