@@ -1,4 +1,6 @@
 // The auditor: the verdict on a list of payments from elsewhere, proved against every other list.
+#![tactic(auto)]
+
 pub mod auditing;
 mod decode;
 mod owing;

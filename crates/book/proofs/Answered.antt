@@ -1,5 +1,5 @@
 -- Which row is the first that applies, at each turn that the adding of a line takes.
-use Rattle.std.proofs.Common.{◌≡◌, ℕ, ◌<◌, ◌≤◌, true, false, not, leb, List, length, Some, None, Ok, Err, vec_items, vec_len, Option, sym, refl, ap, ◌∙◌, subst, arith}
+use Rattle.std.proofs.Common.{◌≡◌, ℕ, ◌<◌, ◌≤◌, true, false, not, leb, List, length, Some, None, Ok, Err, vec_items, vec_len, Option, refl, ap, ◌∙◌, arith}
 use Rattle.std.proofs.lemmas.Bool.{le-leb, lt-leb}
 use Rattle.book.proofs.ByRows.{agrees_err, agrees_ok, decoded_agrees}
 use Rattle.book.proofs.Passed.{decoded_passes}

@@ -1,15 +1,14 @@
 -- The decoder answers by the rows: what it refuses the first row that applies refuses, and what it passes no row before that of taking back does.
-use Rattle.std.proofs.Common.{◌≡◌, ℕ, ◌+◌, ◌-◌, ◌*◌, ◌<◌, ◌≤◌, Bool, true, false, cond, not, ◌&&◌, eqb, ltb, leb, List, [], ◌∷◌, ◌++◌, map, length, replicate, Some, None, Ok, Err, Option, Result, sym, refl, ap, ◌∙◌, subst, arith}
+use Rattle.std.proofs.Common.{◌≡◌, ℕ, Bool, true, false, cond, not, eqb, List, length, replicate, Some, None, Ok, Err, Option, Result, refl, subst}
 use Rattle.shares.specs.Bill.{total}
-use Rattle.book.specs.Checks.{unless, asked, clear, first_at, stranger, out_of_range, too_heavy, heavy_at, bill_of, payment_of, of_kind, decoded}
+use Rattle.book.specs.Checks.{unless, asked, clear, first_at, stranger, out_of_range, too_heavy, heavy_at, of_kind, decoded}
 use Rattle.book.specs.Codes.{code}
-use Rattle.book.specs.Held.{Held, may_return, returnable}
-use Rattle.book.specs.Layout.{byte, two_bytes, four_bytes, kind_of, length_of, people_at, amounts_at, weights_at, weights_of}
-use Rattle.book.specs.Rows.{told, at_place, no_kind, of_its_kind, weightless, to_oneself, not_returnable, rows, first_row}
+use Rattle.book.specs.Layout.{byte, four_bytes, kind_of, length_of, people_at, amounts_at, weights_at, weights_of}
+use Rattle.book.specs.Rows.{told, at_place, no_kind, of_its_kind, weightless, to_oneself}
 use Rattle.book.specs.declared.kind.Kind.{Kind}
 use Rattle.book.specs.declared.kind.Kind.TheVariants as kind
 use Rattle.book.specs.declared.line.Entry.{Entry}
-use Rattle.book.specs.declared.line.Line.TheVariants.{Bill, Payment, TakeBack}
+use Rattle.book.specs.declared.line.Line.TheVariants.{Bill, Payment}
 use Rattle.book.specs.declared.refusal.Refusal.{Refusal}
 use Rattle.book.specs.declared.refusal.Refusal.TheVariants.{UnknownKind, WrongLength, UnknownPerson, AmountOutOfRange, WeightTooLarge, NoWeight, PaidToSelf}
 

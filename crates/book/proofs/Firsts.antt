@@ -1,8 +1,8 @@
 -- The first row that applies, by its place in the list.
-use Rattle.std.proofs.Common.{◌≡◌, ℕ, zero, suc, ◌<◌, List, [], ◌∷◌, length, get_or, Some, None, Option, sym, refl, ap, ◌∙◌, subst, arith}
+use Rattle.std.proofs.Common.{◌≡◌, ℕ, zero, suc, ◌<◌, List, [], ◌∷◌, length, get_or, Some, None, Option, sym, refl, ap, ◌∙◌, arith}
 use Rattle.book.specs.Held.{Held}
 use Rattle.book.specs.Promise.{Stops, FirstRow}
-use Rattle.book.specs.Rows.{Row, told, first_row}
+use Rattle.book.specs.Rows.{Row, first_row}
 
 module _ (h : Held) (bs : List ℕ) (d : Row) where
   -- a row that does not apply is passed over

@@ -1,5 +1,5 @@
 -- What the decoder passes is the entry that the bytes say, and may follow the lines of a book where what it takes back can be taken back.
-use Rattle.std.proofs.Common.{◌≡◌, ℕ, zero, suc, ◌+◌, ◌-◌, ◌<◌, ◌≤◌, Bool, true, false, cond, not, ◌&&◌, eqb, ltb, leb, List, [], ◌∷◌, ◌++◌, map, length, take, drop, replicate, Some, None, Ok, Err, Option, Result, sym, refl, ap, ◌∙◌, subst, arith}
+use Rattle.std.proofs.Common.{◌≡◌, ℕ, zero, suc, ◌+◌, ◌-◌, ◌≤◌, Bool, true, false, cond, not, eqb, List, [], ◌∷◌, ◌++◌, map, length, drop, replicate, Some, None, Ok, Err, Option, Result, refl, ap, ◌∙◌, subst, arith}
 use Rattle.shares.specs.Bill.{total}
 use Rattle.shares.proofs.Totals.{total_take_drop}
 use Rattle.std.proofs.lemmas.List.FromFn.{length-map-range_with_len}
@@ -15,7 +15,7 @@ use Rattle.book.specs.Rows.{at_place, of_its_kind, not_returnable}
 use Rattle.book.specs.declared.kind.Kind.{Kind}
 use Rattle.book.specs.declared.kind.Kind.TheVariants as kind
 use Rattle.book.specs.declared.line.Entry.{Entry}
-use Rattle.book.specs.declared.line.Line.TheVariants.{Bill, Payment, TakeBack}
+use Rattle.book.specs.declared.line.Line.TheVariants.{Bill, Payment}
 use Rattle.book.specs.declared.refusal.Refusal.{Refusal}
 use Rattle.book.specs.declared.refusal.Refusal.TheVariants.{UnknownKind, WrongLength, UnknownPerson, AmountOutOfRange, WeightTooLarge, NoWeight, PaidToSelf}
 

@@ -1,14 +1,13 @@
 -- A book in order is sound, as the theorems ask it, and its lines stand where no later line takes them back.
-use Rattle.std.proofs.Common.{◌≡◌, ℕ, zero, suc, ◌+◌, ◌<◌, ◌≤◌, Bool, true, false, not, ◌&&◌, ◌||◌, eqb, ltb, leb, List, [], ◌∷◌, ◌++◌, length, take, drop, sym, refl, ap, ◌∙◌, append_assoc, arith}
-use Rattle.shares.specs.Bill.{pick, total, billed}
+use Rattle.std.proofs.Common.{◌≡◌, ℕ, ◌<◌, ◌≤◌, true, ◌||◌, List, [], ◌∷◌, ◌++◌, length, take, refl, ap, ◌∙◌, arith}
+use Rattle.shares.specs.Bill.{total, billed}
 use Rattle.shares.specs.Promise.{SoundBill}
-use Rattle.std.proofs.lemmas.List.{length-take-le, length_push}
+use Rattle.std.proofs.lemmas.List.{length-take-le}
 use Rattle.std.proofs.lemmas.Bool.{and_parts}
 use Rattle.std.proofs.lemmas.Bool.Decides.{nat_tests}
-use Rattle.book.proofs.Marks.{returns_earlier}
 use Rattle.book.specs.Held.{takes, taken}
 use Rattle.book.specs.Ledger as ledger
-use Rattle.book.specs.Orderly.{follows, light, weighed, orderly_after, orderly}
+use Rattle.book.specs.Orderly.{follows, weighed, orderly_after}
 use Rattle.book.specs.Reading.{read_line, lines}
 use Rattle.book.specs.declared.line.Entry.{Entry}
 use Rattle.book.specs.declared.line.Line.{Line}

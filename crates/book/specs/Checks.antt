@@ -1,11 +1,11 @@
 -- Each check of a line's bytes: it hands on its value or is answered by None, and a line is decoded by one after another.
-use Rattle.std.specs.Prelude.{ℕ, Bool, true, false, cond, not, ◌&&◌, ◌||◌, List, [], ◌∷◌, length, replicate, Some, None, Ok, Err, Option, Result, ◌==◌, nat_le, nat_lt}
+use Rattle.std.specs.Prelude.{ℕ, Bool, true, false, cond, ◌||◌, List, [], ◌∷◌, length, replicate, Some, None, Ok, Err, Option, Result, ◌==◌, nat_le, nat_lt}
 use Rattle.shares.specs.Bill.{total}
 use Rattle.book.specs.Layout.{byte, two_bytes, four_bytes, kind_of, length_of, weights_at, weights_of, entry_of}
 use Rattle.book.specs.declared.kind.Kind.{Kind}
 use Rattle.book.specs.declared.kind.Kind.TheVariants as kind
 use Rattle.book.specs.declared.line.Entry.{Entry}
-use Rattle.book.specs.declared.line.Line.TheVariants.{Bill, Payment, TakeBack}
+use Rattle.book.specs.declared.line.Line.TheVariants.{Bill, Payment}
 use Rattle.book.specs.declared.refusal.Refusal.{Refusal}
 use Rattle.book.specs.declared.refusal.Refusal.TheVariants.{UnknownKind, WrongLength, UnknownPerson, AmountOutOfRange, WeightTooLarge, NoWeight, PaidToSelf}
 

@@ -1,5 +1,5 @@
 -- How a line lies in its bytes: a kind, and then the fields of that kind. Numbers have their low byte first.
-use Rattle.std.specs.Prelude.{ℕ, ◌+◌, ◌-◌, ◌*◌, Bool, cond, List, [], ◌∷◌, ◌++◌, map, replicate, Some, None, Option, ◌==◌, slice_index}
+use Rattle.std.specs.Prelude.{ℕ, ◌+◌, ◌-◌, ◌*◌, cond, List, [], ◌∷◌, ◌++◌, map, replicate, Some, None, Option, ◌==◌, slice_index}
 use Rattle.std.specs.List.{range_with_len}
 use Rattle.book.specs.declared.kind.Kind.{Kind}
 use Rattle.book.specs.declared.kind.Kind.TheVariants.{Bill, Payment, TakeBack}

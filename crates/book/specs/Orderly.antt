@@ -1,5 +1,5 @@
 -- What holds of the lines of every book.
-use Rattle.std.specs.Prelude.{ℕ, Bool, true, false, not, ◌&&◌, List, [], ◌∷◌, ◌++◌, length, take, drop, ◌==◌, nat_le, nat_lt}
+use Rattle.std.specs.Prelude.{ℕ, Bool, true, not, ◌&&◌, List, [], ◌∷◌, ◌++◌, length, take, drop, ◌==◌, nat_le, nat_lt}
 use Rattle.shares.specs.Bill.{total}
 use Rattle.book.specs.Held.{returnable}
 use Rattle.book.specs.declared.line.Entry.{Entry}

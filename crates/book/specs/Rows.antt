@@ -1,7 +1,6 @@
 -- The rules by which a line is turned away, as rows in the order in which they are tried: the first that applies counts.
-use Rattle.std.specs.Prelude.{◌≡◌, ℕ, ◌<◌, Bool, true, false, cond, not, ◌&&◌, List, [], ◌∷◌, length, Some, None, Option, ◌==◌, nat_le}
+use Rattle.std.specs.Prelude.{ℕ, Bool, true, false, not, List, [], ◌∷◌, length, Some, None, Option, ◌==◌, nat_le}
 use Rattle.shares.specs.Bill.{total}
-use Rattle.std.specs.List.{slice_get}
 use Rattle.book.specs.Checks.{first_at, stranger, out_of_range, too_heavy}
 use Rattle.book.specs.Held.{Held, returnable}
 use Rattle.book.specs.Layout.{byte, two_bytes, kind_of, length_of, people_at, amounts_at, weights_at, weights_of}

@@ -1,4 +1,6 @@
 // The book: lines from bytes, taken by fixed rules or turned away by the first rule that applies.
+#![tactic(auto)]
+
 mod decode;
 pub mod kind;
 pub mod ledger;

@@ -1,4 +1,6 @@
 // Tables of cases for the crates of this repository.
+#![tactic(auto)]
+
 #[cfg(test)]
 mod crews;
 #[cfg(test)]

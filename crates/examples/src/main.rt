@@ -1,4 +1,6 @@
 // The example books, each with the report that examples/make.py worked out for it: says of each whether the program's report is the same.
+#![tactic(auto)]
+
 use std::fs;
 
 fn main(rt: HostRuntime) -> anyhow::Result<()> {

@@ -1,4 +1,6 @@
 // Groups of people that come out even: how many there can be, and which they are by rule.
+#![tactic(auto)]
+
 pub mod filling;
 mod fixing;
 pub mod grouping;

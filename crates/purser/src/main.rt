@@ -1,4 +1,6 @@
 // The program: reads a book from a file or from standard input and prints the report on it, or the verdict on payments for it.
+#![tactic(auto)]
+
 ghost use Rattle.std.specs.Prelude.{◌≡◌, true, IfErr};
 ghost use Rattle.purser.specs.Faults.{FailsBy, arguments, cause_of, file, input as standard-input, of_text, output, source};
 

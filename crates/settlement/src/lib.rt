@@ -1,4 +1,6 @@
 // Settlements: how few payments and how little money settle balances, proved of every list of payments.
+#![tactic(auto)]
+
 mod paying;
 pub mod payment;
 pub mod settling;

@@ -1,5 +1,5 @@
 -- Laws of the total of a list and of its fronts.
-use Rattle.std.proofs.Common.{◌≡◌, ℕ, zero, suc, ◌+◌, ◌<◌, ◌≤◌, List, [], ◌∷◌, ◌++◌, length, get_or, take, drop, refl, ap, add-one, arith}
+use Rattle.std.proofs.Common.{◌≡◌, ℕ, zero, suc, ◌+◌, ◌≤◌, List, [], ◌∷◌, get_or, take, drop, refl, ap, add-one, arith}
 use Rattle.shares.specs.Bill.{total}
 
 -- the front and the rest are the whole

@@ -1,4 +1,6 @@
 // Shares of a bill by weight, in whole cents.
+#![tactic(auto)]
+
 ghost use Rattle.std.specs.Prelude.{◌≡◌, ℕ, ◌≤◌};
 ghost use Rattle.shares.specs.Bill.{total, up_to, billed, all_shares};
 ghost use Rattle.shares.specs.Promise.{SharesAdd, ShareNear};

@@ -1,4 +1,6 @@
 // What the program prints, as one function from the input's bytes to a text.
+#![tactic(auto)]
+
 ghost use Rattle.std.specs.Prelude.{◌≡◌, ◌++◌, drop, IfOk, string_bytes};
 ghost use Rattle.book.specs.Codes.{code};
 ghost use Rattle.book.specs.View.{held};

@@ -3,5 +3,5 @@ use Rattle.std.proofs.Common.{rules}
 use Rattle.shares.proofs.Parts.{up_to_le}
 use Rattle.shares.proofs.falls_to.Goals as goal
 
-pub overflow-cast-result : goal.overflow-cast-result
-overflow-cast-result c = search (rules, up_to_le)
+pub overflow_cast-result : goal.overflow_cast-result
+overflow_cast-result c = search (rules, up_to_le)

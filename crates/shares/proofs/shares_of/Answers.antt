@@ -12,14 +12,14 @@ pub loop-person-init : goal.loop-person-init
 unfolding total
 loop-person-init c = search (rules, mul-zero, zero-div)
 
-pub overflow-add-part : goal.overflow-add-part
-overflow-add-part c = search (rules, total_next_le)
+pub overflow_add-part : goal.overflow_add-part
+overflow_add-part c = search (rules, total_next_le)
 
-pub falls-to-up-to-requires : goal.falls-to-up-to-requires
-falls-to-up-to-requires c = search (rules, total_next_le)
+pub falls_to-up_to-requires : goal.falls_to-up_to-requires
+falls_to-up_to-requires c = search (rules, total_next_le)
 
-pub overflow-sub-shares : goal.overflow-sub-shares
-overflow-sub-shares c = search (rules, up_to_mono)
+pub overflow_sub-shares : goal.overflow_sub-shares
+overflow_sub-shares c = search (rules, up_to_mono)
 
 -- x written at place i, after the shares below i
 one_more : (f : ℕ → ℕ) (xs : List ℕ) (i x : ℕ) → i < length xs → x ≡ f i →

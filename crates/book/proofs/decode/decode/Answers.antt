@@ -2,13 +2,13 @@ use Rattle.std.proofs.Common.{rules}
 use Rattle.book.proofs.decode.decode.Goals as goal
 use Rattle.book.specs.Checks.{decoded}
 
-pub returns-in-default : goal.returns-in-default
+pub returns-in_default : goal.returns-in_default
 unfolding decoded
-returns-in-default c = search rules
+returns-in_default c = search rules
 
-pub returns-then-bytes-line-length : goal.returns-then-bytes-line-length
+pub returns-then-bytes-line_length : goal.returns-then-bytes-line_length
 unfolding decoded
-returns-then-bytes-line-length c = search rules
+returns-then-bytes-line_length c = search rules
 
 pub returns-in-Bill : goal.returns-in-Bill
 unfolding decoded

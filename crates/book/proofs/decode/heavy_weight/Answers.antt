@@ -5,8 +5,8 @@ use Rattle.book.proofs.decode.heavy_weight.Goals as goal
 use Rattle.book.specs.Checks.{too_heavy}
 use Rattle.book.specs.Layout.{weight_at}
 
-pub returns-then-u16-at-gt-MAX-WEIGHT : goal.returns-then-u16-at-gt-MAX-WEIGHT
-returns-then-u16-at-gt-MAX-WEIGHT c =
+pub returns-then-u16_at-gt-MAX_WEIGHT : goal.returns-then-u16_at-gt-MAX_WEIGHT
+returns-then-u16_at-gt-MAX_WEIGHT c =
     let step = first_at_more (too_heavy c.args.bytes.now) weight_at c.args.people c.loop-i.i (search rules) in grind (arith, nat_tests)
 
 pub loop-i-preserved : goal.loop-i-preserved

@@ -5,8 +5,8 @@ use Rattle.book.specs.Layout.{two_bytes, weight_at, weights_of}
 
 pub loop-i-preserved : goal.loop-i-preserved
 loop-i-preserved c =
-    ap (λ ws. set ws c.loop-i.i c.u16-at.result) c.loop-i.invariant
-    ∙ written_more (λ i. two_bytes c.args.bytes.now (weight_at i)) 16 c.loop-i.i c.u16-at.result (omega arith) c.u16-at.ensures
+    ap (λ ws. set ws c.loop-i.i c.u16_at.result) c.loop-i.invariant
+    ∙ written_more (λ i. two_bytes c.args.bytes.now (weight_at i)) 16 c.loop-i.i c.u16_at.result (omega arith) c.u16_at.ensures
 
 pub returns : goal.returns
 unfolding weights_of

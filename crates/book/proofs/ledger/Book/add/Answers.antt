@@ -23,31 +23,31 @@ stopped false e h = refl
 pub returns-then-number-self : goal.returns-then-number-self
 returns-then-number-self c = record { by_row = told.no_room c.args.self.now c.args.bytes.now (omega arith); same = refl }
 
-pub returns-in-err-entry : goal.returns-in-err-entry
-returns-in-err-entry c =
-    let p = err_from_is_err_and c.from-residual.result c.from-residual.ensures.1 in
-    rw (p.1, p.2) (record { by_row = told.not_decoded c.args.self.now c.args.bytes.now (omega arith) _ (sym c.in-err-entry.ensures); same = refl })
+pub returns-in_err-entry : goal.returns-in_err-entry
+returns-in_err-entry c =
+    let p = err_from_is_err_and c.from_residual.result c.from_residual.ensures.1 in
+    rw (p.1, p.2) (record { by_row = told.not_decoded c.args.self.now c.args.bytes.now (omega arith) _ (sym c.in_err-entry.ensures); same = refl })
 
-pub returns-in-default : goal.returns-in-default
-returns-in-default c =
+pub returns-in_default : goal.returns-in_default
+returns-in_default c =
     let b = c.args.self.now in
-    let e = c.in-ok-entry.entry in
-    let no = stopped (may_return (vec_items b.entries) e.line) e c.in-default.ensures in
-    record { by_row = told.not_taken_back b c.args.bytes.now (omega arith) e (sym c.in-ok-entry.ensures) no; same = refl }
+    let e = c.in_ok-entry.entry in
+    let no = stopped (may_return (vec_items b.entries) e.line) e c.in_default.ensures in
+    record { by_row = told.not_taken_back b c.args.bytes.now (omega arith) e (sym c.in_ok-entry.ensures) no; same = refl }
 
-pub returns-then-number-ge-MAX-LINES : goal.returns-then-number-ge-MAX-LINES
-returns-then-number-ge-MAX-LINES c =
+pub returns-then-number-ge-MAX_LINES : goal.returns-then-number-ge-MAX_LINES
+returns-then-number-ge-MAX_LINES c =
     let b = c.args.self.now in
-    let e = c.in-ok-entry.entry in
+    let e = c.in_ok-entry.entry in
     let yes = passed (may_return (vec_items b.entries) e.line) e c.in-Some.entry c.in-Some.ensures in
-    record { by_row = told.too_many b c.args.bytes.now (omega arith) e (sym c.in-ok-entry.ensures) yes.0 (omega arith); same = refl }
+    record { by_row = told.too_many b c.args.bytes.now (omega arith) e (sym c.in_ok-entry.ensures) yes.0 (omega arith); same = refl }
 
 pub keep-requires : goal.keep-requires
 keep-requires c =
     let b = c.args.self.now in
-    let e = c.in-ok-entry.entry in
+    let e = c.in_ok-entry.entry in
     let yes = passed (may_return (vec_items b.entries) e.line) e c.in-Some.entry c.in-Some.ensures in
-    let good = decoded_passes b.people c.args.bytes.now b.crew.1 e (sym c.in-ok-entry.ensures) in
+    let good = decoded_passes b.people c.args.bytes.now b.crew.1 e (sym c.in_ok-entry.ensures) in
     record {
       room = omega arith;
       few = omega arith;
@@ -57,9 +57,9 @@ keep-requires c =
 pub returns : goal.returns
 returns c =
     let b = c.args.self.now in
-    let e = c.in-ok-entry.entry in
+    let e = c.in_ok-entry.entry in
     let es = vec_items b.entries in
-    let is = sym c.in-ok-entry.ensures in
+    let is = sym c.in_ok-entry.ensures in
     let yes = passed (may_return es e.line) e c.in-Some.entry c.in-Some.ensures in
     let good = decoded_passes b.people c.args.bytes.now b.crew.1 e is in
     let grown = c.keep.ensures ∙ ap (with_said (held b)) (sym (good.said ∙ ap Some yes.1)) in

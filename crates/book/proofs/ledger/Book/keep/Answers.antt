@@ -11,20 +11,26 @@ strike-requires c =
     let long : length (vec_items self.entries) ≡ vec_len self.stands = omega (arith, self.stands.ok.0, ap length self.marked, length_standing (vec_items self.entries)) in
     subst (Within c.args.entry.line) long there
 
-pub push-reserved-requires-2 : goal.push-reserved-requires-2
-push-reserved-requires-2 c =
+pub push_reserved-requires-2 : goal.push_reserved-requires-2
+push_reserved-requires-2 c =
     let self = c.args.self.now in
     omega (arith, self.stands.ok.0, self.entries.ok.0, ap length self.marked, length_standing (vec_items self.entries), self.reserved)
 
-pub invariant-of-self : goal.invariant-of-self
-invariant-of-self c =
+pub invariant_of-self : goal.invariant_of-self
+invariant_of-self c =
     let self = c.args.self.now in
     let es = vec_items self.entries in
-    let pushed = c.push-reserved.ensures in
+    let pushed = c.push_reserved.ensures in
     let ordered = ap (orderly self.people) pushed.items ∙ orderly_push self.people [] es c.args.entry self.ordered c.requires.fits in
     let struck-marks = c.strike.ensures.marks ∙ ap (struck c.args.entry.line) self.marked in
     let marked =
-    c.push-reserved-2.ensures.items ∙ ap (λ l. l ++ (true ∷ [])) struck-marks
+    c.push_reserved-2.ensures.items ∙ ap (λ l. l ++ (true ∷ [])) struck-marks
     ∙ standing_push self.people es c.args.entry self.ordered c.requires.fits ∙ ap standing (sym pushed.items)
     in
-    (self.crew, ((omega arith, omega arith), ((omega (arith, self.reserved), omega (arith, self.reserved)), (ordered, (marked, tt)))))
+    record {
+      crew = self.crew;
+      few = (omega arith, omega arith);
+      reserved = (omega (arith, self.reserved), omega (arith, self.reserved));
+      ordered = ordered;
+      marked = marked;
+    }

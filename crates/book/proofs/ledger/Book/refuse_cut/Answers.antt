@@ -1,4 +1,4 @@
-use Rattle.std.proofs.Common.{◌≡◌, length, vec_items, sym, refl, ap, ◌∙◌, arith}
+use Rattle.std.proofs.Common.{arith}
 use Rattle.std.proofs.lemmas.Bool.Decides.{nat_tests}
 use Rattle.book.proofs.ledger.Book.refuse_cut.Goals as goal
 use Rattle.book.specs.Rows.{rows_of_cut}
@@ -7,11 +7,11 @@ pub returns-then-len-self : goal.returns-then-len-self
 unfolding rows_of_cut
 returns-then-len-self c = let long = c.args.self.now.entries.ok.0 in grind (arith, nat_tests)
 
-pub returns-in-default : goal.returns-in-default
+pub returns-in_default : goal.returns-in_default
 unfolding rows_of_cut
-returns-in-default c =
+returns-in_default c =
     let long = c.args.self.now.entries.ok.0 in
-    let none = c.in-default.ensures in
+    let none = c.in_default.ensures in
     grind (arith, nat_tests)
 
 pub returns : goal.returns

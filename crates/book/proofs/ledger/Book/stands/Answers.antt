@@ -1,7 +1,6 @@
 use Rattle.std.proofs.Common.{◌≡◌, ◌<◌, length, get_or, vec_items, vec_len, ap, arith}
 use Rattle.std.proofs.lemmas.Bool.Decides.{nat_tests}
 use Rattle.book.proofs.Marks.{length_standing, standing_at}
-use Rattle.book.proofs.ledger.Book.stands.Given as given
 use Rattle.book.proofs.ledger.Book.stands.Goals as goal
 use Rattle.book.specs.declared.ledger.Book.{Book}
 
