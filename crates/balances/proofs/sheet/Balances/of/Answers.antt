@@ -8,10 +8,10 @@ use Rattle.balances.proofs.Sums.{all_in_range, everybody, sides_same, sums_even,
 use Rattle.balances.proofs.Turns.{Running, entry_follows, named, running_skips, running_stands}
 use Rattle.balances.specs.Signed.{at_person, signed}
 use Rattle.balances.proofs.sheet.Balances.of.Goals as goal
-use Rattle.balances.proofs.sheet.Balances.of.Goals.{in-Some, in-default}
+use Rattle.balances.proofs.sheet.Balances.of.Goals.{in-Some, in_default}
 
-pub count-line-requires : goal.count-line-requires
-count-line-requires c =
+pub count_line-requires : goal.count_line-requires
+count_line-requires c =
     let b = c.args.book.now in
     let e = c.in-Some.entry in
     let es = (held b).entries in
@@ -30,12 +30,12 @@ loop-number-preserved c =
     let es = (held b).entries in
     let k = c.loop-number.number in
     let run = c.loop-number.invariant in
-    elim c.match-standing-entry.branch [
+    elim c.match-standing_entry.branch [
       | in-Some w ↦
-          subst (Running n es _) (sym (w.cents-is ∙ w.count-line.ensures))
+          subst (Running n es _) (sym (w.cents-is ∙ w.count_line.ensures))
           (running_stands n es k (in_order b) (omega arith) w.in-Some.entry _ w.in-Some.ensures run)
-      | in-default w ↦
-          subst (Running n es _) (sym w.cents-is) (running_skips n es k (in_order b) (omega arith) _ w.in-default.ensures run)
+      | in_default w ↦
+          subst (Running n es _) (sym w.cents-is) (running_skips n es k (in_order b) (omega arith) _ w.in_default.ensures run)
     ]
 
 -- after the last line
@@ -43,20 +43,20 @@ ended : (b : Book) (k : ℕ) (xs : List ℤ) → k ≡ length (held b).entries �
     Running (held b).people (held b).entries (length (held b).entries) xs
 ended b k xs all run = subst (λ m. Running (held b).people (held b).entries m xs) all run
 
-pub invariant-of-result : goal.invariant-of-result
-invariant-of-result c =
+pub invariant_of-result : goal.invariant_of-result
+invariant_of-result c =
     let b = c.args.book.now in
     let n = (held b).people in
     let es = (held b).entries in
     let xs = c.loop-number.cents in
     let run = ended b c.loop-number.number xs (omega arith) c.loop-number.invariant in
-    let absent = zero_absent n es xs (sound b) (few_people b) run in (
-      omega (arith, few_people b),
-      (
-        all_in_range n es xs (sound b) (few_people b) run (few_lines b),
-        (subst (λ m. drop m xs ≡ replicate (16 - m) (pos 0)) (sym c.people.ensures) absent, (sums_even n es xs (sound b) (few_people b) run, tt)),
-      ),
-    )
+    let absent = zero_absent n es xs (sound b) (few_people b) run in
+    record {
+      crew = omega (arith, few_people b);
+      near = all_in_range n es xs (sound b) (few_people b) run (few_lines b);
+      absent = subst (λ m. drop m xs ≡ replicate (16 - m) (pos 0)) (sym c.people.ensures) absent;
+      even = sums_even n es xs (sound b) (few_people b) run;
+    }
 
 pub returns : goal.returns
 returns c =

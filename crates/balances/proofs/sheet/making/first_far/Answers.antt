@@ -6,11 +6,11 @@ use Rattle.balances.proofs.FirstFar.{first_far_more, first_far_all}
 use Rattle.balances.specs.Signed.{at_person}
 use Rattle.balances.proofs.sheet.making.first_far.Goals as goal
 
-pub returns-then-unsigned-abs-gt-MAX-CENTS : goal.returns-then-unsigned-abs-gt-MAX-CENTS
-returns-then-unsigned-abs-gt-MAX-CENTS c =
+pub returns-then-unsigned_abs-gt-MAX_CENTS : goal.returns-then-unsigned_abs-gt-MAX_CENTS
+returns-then-unsigned_abs-gt-MAX_CENTS c =
     let z = at_person c.args.cents.now c.loop-person.person in
     let fits : SFits w64 z = search rules in
-    let size : c.unsigned-abs.result ≡ nat_abs z = simp to_z-of_z at c.unsigned-abs.ensures.value in
+    let size : c.unsigned_abs.result ≡ nat_abs z = simp to_z-of_z at c.unsigned_abs.ensures.value in
     let step = first_far_more c.args.cents.now c.loop-person.person (omega arith) in
     grind (arith, nat_tests)
 
@@ -18,7 +18,7 @@ pub loop-person-preserved : goal.loop-person-preserved
 loop-person-preserved c =
     let z = at_person c.args.cents.now c.loop-person.person in
     let fits : SFits w64 z = search rules in
-    let size : c.unsigned-abs.result ≡ nat_abs z = simp to_z-of_z at c.unsigned-abs.ensures.value in
+    let size : c.unsigned_abs.result ≡ nat_abs z = simp to_z-of_z at c.unsigned_abs.ensures.value in
     let step = first_far_more c.args.cents.now c.loop-person.person (omega arith) in
     grind (arith, nat_tests)
 

@@ -10,8 +10,8 @@ pub loop-number-init : goal.loop-number-init
 unfolding span_z
 loop-number-init c = (refl, omega arith)
 
-pub overflow-add-sum : goal.overflow-add-sum
-overflow-add-sum c = let near = near_each c.args.cents.now c.loop-number.number-index c.requires.near in omega (arith, ints)
+pub overflow_add-sum : goal.overflow_add-sum
+overflow_add-sum c = let near = near_each c.args.cents.now c.loop-number.number-index c.requires.near in omega (arith, ints)
 
 pub loop-number-preserved : goal.loop-number-preserved
 loop-number-preserved c =

@@ -9,8 +9,8 @@ use Rattle.balances.specs.Signed.{at_person}
 use Rattle.balances.specs.Tally.{Named, after_line}
 use Rattle.balances.proofs.sheet.tally.count_line.Goals as goal
 
-pub overflow-sub-cents : goal.overflow-sub-cents
-overflow-sub-cents c =
+pub overflow_sub-cents : goal.overflow_sub-cents
+overflow_sub-cents c =
     let xs = c.args.cents.now in
     let p = c.in-Payment.from in
     let q = c.in-Payment.to in
@@ -29,9 +29,9 @@ returns-in-Bill c =
     let there = subst Named c.in-Bill.is c.requires.named in
     let few : a < 2 ^ 32 = search rules in
     let more = sum_fits (at_person xs p) c.from.result a (omega (arith, c.requires.bounded p)) c.from.ensures few in
-    c.take-shares.ensures
-    ∙ bill_counted xs (omega arith) p a c.args.entry.weights c.shares-of.result (plus64 (at_person xs p) c.from.result)
-    (omega arith) (omega arith) more (c.shares-of.ensures p)
+    c.take_shares.ensures
+    ∙ bill_counted xs (omega arith) p a c.args.entry.weights c.shares_of.result (plus64 (at_person xs p) c.from.result)
+    (omega arith) (omega arith) more (c.shares_of.ensures p)
     ∙ ap (λ l. after_line (read_line 16 c.args.entry.weights l) xs) (sym c.in-Bill.is)
 
 pub returns-in-Payment : goal.returns-in-Payment
