@@ -7,7 +7,6 @@ use Rattle.groups.proofs.SetLaws.{in_empty, out_gone, out_less, out_sub, smalles
 use Rattle.groups.proofs.Smaller.{by_smaller}
 use Rattle.groups.proofs.ZeroLaws.{cases_zero}
 use Rattle.groups.specs.Counts.{count}
-use Rattle.groups.specs.Courses.{at}
 use Rattle.groups.specs.Parting.{Parted}
 use Rattle.groups.specs.Sets.{is_in, smallest, without}
 use Rattle.groups.specs.Signs.{sum_of}

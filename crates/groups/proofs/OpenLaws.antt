@@ -8,7 +8,6 @@ use Rattle.groups.proofs.SumLaws.{pick_none}
 use Rattle.balances.proofs.SpansZ.{span_z_same}
 use Rattle.groups.proofs.ZeroLaws.{cases_zero, not_zero, zero_no}
 use Rattle.groups.specs.Counts.{count}
-use Rattle.groups.specs.Courses.{at}
 use Rattle.shares.specs.Bill.{pick}
 use Rattle.groups.specs.Sets.{everyone, is_in, set_of}
 use Rattle.groups.specs.Signs.{AllOpen, is_zero, open_of, sum_of, only}

@@ -6,7 +6,6 @@ use Rattle.groups.proofs.ChosenLaws.{no_low, no_part}
 use Rattle.groups.proofs.First.{first_is, first_none}
 use Rattle.groups.proofs.SetLaws.{minus_in, out_gone, part_in, part_le, part_self, smallest_in}
 use Rattle.groups.proofs.Subsets.{and_part, out_part, part_out, prev_part, rest_part}
-use Rattle.groups.specs.Courses.{at}
 use Rattle.groups.specs.Fixed.{chosen, reaches}
 use Rattle.groups.specs.Sets.{is_in, is_part, smallest, without}
 

@@ -6,7 +6,6 @@ use lib.Count.{count_trailing_zeros}
 use Rattle.std.proofs.lemmas.Nat.{and_le_l, and_le_r, pow_pos}
 use Rattle.std.proofs.lemmas.Bool.{cases_Bool, cases_eq, cases_lt, eq-eqb, eqb-true, ne_eqb}
 use Rattle.std.proofs.lemmas.Bool.Decides.{nat_tests}
-use Rattle.groups.specs.Courses.{at}
 use Rattle.groups.specs.Sets.{everyone, is_in, is_part, set_of, smallest, without}
 use Rattle.shares.specs.Span.{span}
 

@@ -4,7 +4,6 @@ use lib.Bits.{and_step, bit_and}
 use Rattle.std.proofs.lemmas.Nat.{and_le_r}
 use Rattle.std.proofs.lemmas.Bool.{and_parts, both_ways, cases_lt}
 use Rattle.groups.proofs.SetLaws.{and_in, in_part, minus_in, out_other, out_sub, part_digit, part_half, part_in, part_is, part_le}
-use Rattle.groups.specs.Courses.{at}
 use Rattle.groups.specs.Sets.{is_in, is_part, without}
 
 -- of the parts of m below a part r, that is the greatest

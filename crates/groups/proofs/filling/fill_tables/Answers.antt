@@ -8,18 +8,18 @@ fill-requires c =
     let b = c.args.balances.now in
     let xs = c.numbers.result.now in
     let is = c.numbers.ensures in
-    let space = crew_room b xs is.all is.each c.args.sums.now c.args.counts.now c.in-ok-room.ensures in
+    let space = crew_room b xs is.all is.each c.args.sums.now c.args.counts.now c.in_ok-room.ensures in
     record {
       few = crew_few b xs is.all is.each;
       moderate = crew_moderate b xs is.all is.each;
-      sums-room = space.0;
-      counts-room = space.1;
+      sums_room = space.0;
+      counts_room = space.1;
     }
 
 pub returns : goal.returns
 returns c =
     let is = c.numbers.ensures in (
-      c.in-ok-room.ensures,
+      c.in_ok-room.ensures,
       of_crew c.args.balances.now c.numbers.result.now is.all is.each
           (λ f n. Written f n c.args.sums.now c.fill.new.sums c.args.counts.now c.fill.new.counts) c.fill.ensures,
     )

@@ -29,15 +29,15 @@ returns-then-left-eq0 t c =
     let e = ap (fixed_by f n c.args.counts.now) c.if-left-eq0.true ∙ fixed_empty f n c.args.counts.now in
     sym (ap (λ ts. vec_items c.args.groups.now ++ ts) e ∙ append-nil (vec_items c.args.groups.now))
 
-pub push-reserved-requires : goal.push-reserved-requires
-push-reserved-requires t c =
+pub push_reserved-requires : goal.push_reserved-requires
+push_reserved-requires t c =
     let n = length c.args.balances.now in
     let k = smallest n c.args.left in
     let kin = smallest_in n c.args.left (omega arith) c.requires.small in
     omega (arith, size_some n c.args.left k (in_below n c.args.left k c.requires.small kin) kin)
 
-pub overflow-sub-left : goal.overflow-sub-left
-overflow-sub-left t c =
+pub overflow_sub-left : goal.overflow_sub-left
+overflow_sub-left t c =
     let f = at_person c.args.balances.now in
     let n = length c.args.balances.now in
     part_le c.choose-group.result c.args.left
@@ -67,5 +67,5 @@ fix-requires t c =
 pub returns : goal.returns
 returns t c =
     fixed_joined (at_person c.args.balances.now) (length c.args.balances.now) c.args.counts.now c.args.left c.choose-group.result
-    (vec_items c.args.groups.now) (vec_items c.push-reserved.new.self) (vec_items c.fix.new.groups)
-    (omega arith) c.choose-group.ensures c.push-reserved.ensures.items c.fix.ensures
+    (vec_items c.args.groups.now) (vec_items c.push_reserved.new.self) (vec_items c.fix.new.groups)
+    (omega arith) c.choose-group.ensures c.push_reserved.ensures.items c.fix.ensures

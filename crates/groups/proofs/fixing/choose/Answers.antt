@@ -9,11 +9,11 @@ use Rattle.balances.specs.Signed.{at_person}
 
 pub rests-init : goal.rests-init
 rests-init c =
-    tried_first (at_person c.args.balances.now) (length c.args.balances.now) c.args.counts.now c.args.left c.without-lowest-others.result
-    c.without-lowest-others.ensures
+    tried_first (at_person c.args.balances.now) (length c.args.balances.now) c.args.counts.now c.args.left c.without_lowest-others.result
+    c.without_lowest-others.ensures
 
-pub overflow-sub-left : goal.overflow-sub-left
-overflow-sub-left c = omega (arith, part_le c.rests.rest (without c.args.left (smallest (length c.args.balances.now) c.args.left)) c.rests.invariant.0)
+pub overflow_sub-left : goal.overflow_sub-left
+overflow_sub-left c = omega (arith, part_le c.rests.rest (without c.args.left (smallest (length c.args.balances.now) c.args.left)) c.rests.invariant.0)
 
 pub reaches-requires : goal.reaches-requires
 reaches-requires c =
@@ -27,8 +27,8 @@ reaches-requires c =
       counted = c.requires.counted;
     }
 
-pub overflow-sub-result : goal.overflow-sub-result
-overflow-sub-result c = omega (arith, part_le c.rests.rest (without c.args.left (smallest (length c.args.balances.now) c.args.left)) c.rests.invariant.0)
+pub overflow_sub-result : goal.overflow_sub-result
+overflow_sub-result c = omega (arith, part_le c.rests.rest (without c.args.left (smallest (length c.args.balances.now) c.args.left)) c.rests.invariant.0)
 
 pub returns-then-reaches : goal.returns-then-reaches
 returns-then-reaches c =
@@ -41,10 +41,10 @@ returns-then-rest-eq0 c =
     c.requires.some c.requires.small c.if-rest-eq0.true c.rests.invariant.1 (sym c.if-reaches.ensures)
 
 pub rests-smaller : goal.rests-smaller
-rests-smaller c = omega (arith, and_le_l (c.rests.rest - 1) c.without-lowest-others.result)
+rests-smaller c = omega (arith, and_le_l (c.rests.rest - 1) c.without_lowest-others.result)
 
 pub rests-preserved : goal.rests-preserved
 rests-preserved c =
-    tried_next (at_person c.args.balances.now) (length c.args.balances.now) c.args.counts.now c.args.left c.without-lowest-others.result
+    tried_next (at_person c.args.balances.now) (length c.args.balances.now) c.args.counts.now c.args.left c.without_lowest-others.result
     c.rests.rest
-    c.requires.small c.without-lowest-others.ensures c.if-rest-eq0.false c.rests.invariant c.if-reaches.ensures
+    c.requires.small c.without_lowest-others.ensures c.if-rest-eq0.false c.rests.invariant c.if-reaches.ensures

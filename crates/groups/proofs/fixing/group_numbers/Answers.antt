@@ -11,7 +11,7 @@ pub fix-requires : goal.fix-requires
 fix-requires c =
     let f = at_person c.args.balances.now in
     let n = length c.args.balances.now in
-    let is = c.open-people.ensures in
+    let is = c.open_people.ensures in
     record {
       few = c.requires.few;
       small = omega (arith, is, open_below f n);
@@ -19,7 +19,7 @@ fix-requires c =
       unsettled = subst (AllOpen f) (sym is) (open_all f n);
       summed = record { room = omega arith; below = c.fill.ensures.summed.below };
       counted = record { room = omega arith; below = c.fill.ensures.counted.below };
-      room = omega (arith, size_le n c.open-people.result, c.in-ok-groups.ensures);
+      room = omega (arith, size_le n c.open_people.result, c.in_ok-groups.ensures);
     }
 
 pub returns : goal.returns
@@ -28,6 +28,6 @@ returns c =
     let n = length c.args.balances.now in
     record {
       written = c.fill.ensures;
-      groups = fixed_all f n c.fill.new.counts c.open-people.result (vec_items c.in-ok-groups.groups) (vec_items c.fix.new.groups)
-          (λ k l. c.fill.ensures.counted.below k 0 l) c.in-ok-groups.ensures.items c.open-people.ensures c.fix.ensures;
+      groups = fixed_all f n c.fill.new.counts c.open_people.result (vec_items c.in_ok-groups.groups) (vec_items c.fix.new.groups)
+          (λ k l. c.fill.ensures.counted.below k 0 l) c.in_ok-groups.ensures.items c.open_people.ensures c.fix.ensures;
     }

@@ -4,7 +4,7 @@ use Rattle.std.proofs.lemmas.Nat.{one_shl}
 use Rattle.groups.proofs.SetLaws.{set_below, set_no, set_yes}
 use Rattle.groups.proofs.ZeroLaws.{read_zero}
 use Rattle.groups.proofs.fixing.open_people.Goals as goal
-use Rattle.groups.proofs.fixing.open_people.Goals.{else-not-is-zero, then-not-is-zero}
+use Rattle.groups.proofs.fixing.open_people.Goals.{else-not-is_zero, then-not-is_zero}
 use Rattle.groups.specs.Sets.{set_of}
 use Rattle.balances.specs.Signed.{at_person}
 use Rattle.groups.specs.Signs.{is_zero, open_of}
@@ -14,8 +14,8 @@ pub loop-i-init : goal.loop-i-init
 unfolding set_of span
 loop-i-init c = refl
 
-pub overflow-add-set : goal.overflow-add-set
-overflow-add-set c =
+pub overflow_add-set : goal.overflow_add-set
+overflow_add-set c =
     let p : ℕ → Bool = λ i. not (is_zero (at_person c.args.balances.now i)) in
     let i = c.loop-i.i in
     let le : i ≤ 15 = omega arith in
@@ -29,11 +29,11 @@ loop-i-preserved c =
     let z = get_or c.args.balances.now i (pos 0) in
     let fit : SFits w64 z = search rules in
     rw add-one
-    (elim c.if-not-is-zero.branch [
-      | then-not-is-zero w ↦
-          omega (arith, set_yes p i (ap not (read_zero z false fit w.if-not-is-zero.ensures)), w.set-is, one_shl i 32 (omega arith), c.loop-i.invariant)
-      | else-not-is-zero w ↦
-          omega (arith, set_no p i (ap not (read_zero z true fit w.if-not-is-zero.ensures)), w.set-is, c.loop-i.invariant)
+    (elim c.if-not-is_zero.branch [
+      | then-not-is_zero w ↦
+          omega (arith, set_yes p i (ap not (read_zero z false fit w.if-not-is_zero.ensures)), w.set-is, one_shl i 32 (omega arith), c.loop-i.invariant)
+      | else-not-is_zero w ↦
+          omega (arith, set_no p i (ap not (read_zero z true fit w.if-not-is_zero.ensures)), w.set-is, c.loop-i.invariant)
     ])
 
 pub returns : goal.returns

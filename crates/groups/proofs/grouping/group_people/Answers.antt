@@ -4,25 +4,25 @@ use Rattle.groups.proofs.OfBalances.{crew_even, crew_few, crew_moderate, crew_ro
 use Rattle.groups.proofs.grouping.group_people.Goals as goal
 use Rattle.groups.specs.Made.{Made}
 
-pub group-numbers-requires : goal.group-numbers-requires
-group-numbers-requires c =
+pub group_numbers-requires : goal.group_numbers-requires
+group_numbers-requires c =
     let b = c.args.balances.now in
     let xs = c.numbers.result.now in
     let is = c.numbers.ensures in
-    let space = crew_room b xs is.all is.each c.args.sums.now c.args.counts.now c.in-default.ensures in
+    let space = crew_room b xs is.all is.each c.args.sums.now c.args.counts.now c.in_default.ensures in
     record {
       few = crew_few b xs is.all is.each;
       moderate = crew_moderate b xs is.all is.each;
       even = crew_even b xs is.all is.each;
-      room-sums = space.0;
-      room-counts = space.1;
+      room_sums = space.0;
+      room_counts = space.1;
     }
 
 pub returns-in-Ok : goal.returns-in-Ok
 returns-in-Ok c =
     let is = c.numbers.ensures in
-    let then = c.group-numbers.new in (
-      c.in-default.ensures,
+    let then = c.group_numbers.new in (
+      c.in_default.ensures,
       of_crew c.args.balances.now c.numbers.result.now is.all is.each
           (λ f n. Made f n c.args.sums.now then.sums c.args.counts.now then.counts (vec_items c.in-Ok.groups))
           c.in-Ok.ensures,

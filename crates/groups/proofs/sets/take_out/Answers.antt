@@ -4,5 +4,5 @@ use Rattle.std.proofs.lemmas.Nat.{one_shl}
 use Rattle.groups.proofs.SetLaws.{in_le}
 use Rattle.groups.proofs.sets.take_out.Goals as goal
 
-pub overflow-sub-result : goal.overflow-sub-result
-overflow-sub-result c = omega (arith, one_shl c.args.i 32 c.requires.bit, in_le c.args.set c.args.i c.requires.member)
+pub overflow_sub-result : goal.overflow_sub-result
+overflow_sub-result c = omega (arith, one_shl c.args.i 32 c.requires.bit, in_le c.args.set c.args.i c.requires.member)

@@ -26,7 +26,7 @@ pub returns-then-even : goal.returns-then-even
 returns-then-even c =
     let bs = c.args.balances.now in
     let fit : SFits w64 (get_or bs c.lowest.result (pos 0)) = search rules in
-    ap (λ k. get_or c.args.counts.now k 0) c.without-lowest-rest.ensures
+    ap (λ k. get_or c.args.counts.now k 0) c.without_lowest-rest.ensures
     ∙ sym (counted_even (at_person bs) (length bs) c.args.counts.now c.args.set (omega arith)
     (low_is bs c.lowest.result _ true fit c.lowest.ensures c.if-even.ensures))
 
@@ -34,7 +34,7 @@ pub returns-then-closed : goal.returns-then-closed
 returns-then-closed c =
     let bs = c.args.balances.now in
     let fit : SFits w64 (get_or bs c.lowest.result (pos 0)) = search rules in
-    ap (λ k. get_or c.args.counts.now k 0 + 1) c.without-lowest-rest.ensures
+    ap (λ k. get_or c.args.counts.now k 0 + 1) c.without_lowest-rest.ensures
     ∙ sym (counted_sum (at_person bs) (length bs) c.args.counts.now c.args.set (omega arith)
     (low_is bs c.lowest.result _ false fit c.lowest.ensures c.if-even.ensures)
     (ap is_zero (sym c.requires.summed) ∙ read_zero c.args.sum true c.ranges.sum c.if-closed.ensures))
@@ -43,7 +43,7 @@ pub returns-else-closed : goal.returns-else-closed
 returns-else-closed c =
     let bs = c.args.balances.now in
     let fit : SFits w64 (get_or bs c.lowest.result (pos 0)) = search rules in
-    c.most-of.ensures
+    c.most_of.ensures
     ∙ sym (counted_most (at_person bs) (length bs) c.args.counts.now c.args.set (omega arith)
     (low_is bs c.lowest.result _ false fit c.lowest.ensures c.if-even.ensures)
     (ap is_zero (sym c.requires.summed) ∙ read_zero c.args.sum false c.ranges.sum c.if-closed.ensures))

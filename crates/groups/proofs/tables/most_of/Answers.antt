@@ -10,8 +10,8 @@ pub loop-i-init : goal.loop-i-init
 unfolding most
 loop-i-init c = refl
 
-pub bounds-counts-take-out : goal.bounds-counts-take-out
-bounds-counts-take-out c = omega (arith, out_less c.args.set c.loop-i.i (sym c.if-contains.ensures))
+pub bounds-counts-take_out : goal.bounds-counts-take_out
+bounds-counts-take_out c = omega (arith, out_less c.args.set c.loop-i.i (sym c.if-contains.ensures))
 
 pub loop-i-preserved : goal.loop-i-preserved
 loop-i-preserved c =

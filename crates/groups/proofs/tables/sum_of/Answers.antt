@@ -12,8 +12,8 @@ pub loop-i-init : goal.loop-i-init
 unfolding span_z
 loop-i-init c = refl
 
-pub overflow-add-sum : goal.overflow-add-sum
-overflow-add-sum c =
+pub overflow_add-sum : goal.overflow_add-sum
+overflow_add-sum c =
     let p = is_in c.args.set in
     let f = at_person c.args.balances.now in
     omega (arith, ints, sum_bound (only p f) (2 ^ 48) c.loop-i.i (only_bound p f (2 ^ 48) c.requires.moderate), c.requires.moderate c.loop-i.i)
