@@ -7,8 +7,8 @@ use Rattle.settlement.proofs.paying.pay_all.Goals as goal
 pub loop-set-init : goal.loop-set-init
 loop-set-init c = (record { whole = simp (c.requires.none, read_none) }, refl)
 
-pub pay-set-requires : goal.pay-set-requires
-pay-set-requires c =
+pub pay_set-requires : goal.pay_set-requires
+pay_set-requires c =
     let fits =
     round_room c.loop-set.invariant.0 c.loop-set-test.true c.debts-owes.result c.credits-owed.result
     c.debts-owes.ensures c.credits-owed.ensures in
@@ -20,8 +20,8 @@ pay-set-requires c =
 pub loop-set-preserved : goal.loop-set-preserved
 loop-set-preserved c = (
   round_again c.loop-set.invariant.0 c.loop-set-test.true c.debts-owes.result c.credits-owed.result
-      c.debts-owes.ensures c.credits-owed.ensures (rw c.people.ensures at c.pay-set.ensures.paid),
-  c.pay-set.ensures.room ∙ c.loop-set.invariant.1,
+      c.debts-owes.ensures c.credits-owed.ensures (rw c.people.ensures at c.pay_set.ensures.paid),
+  c.pay_set.ensures.room ∙ c.loop-set.invariant.1,
 )
 
 pub returns : goal.returns

@@ -8,6 +8,6 @@ use Rattle.settlement.specs.Reading.{read_payments}
 -- what was paid and what the tables still give are all payments
 abbrev pub invariant-loop-turn : goal.invariant-loop-turn
 invariant-loop-turn l =
-    Left l.-turn l.people (is_in l.set) (vec_items l.payments) l.owes l.owed
+    Left l._turn l.people (is_in l.set) (vec_items l.payments) l.owes l.owed
     (read_payments (vec_items l.initial.payments) ++ set_payments l.people l.set l.initial.owes l.initial.owed) ×
     (vec_capacity l.payments ≡ vec_capacity l.initial.payments)

@@ -8,17 +8,17 @@ use Rattle.settlement.proofs.settling.settle_balances.Goals as goal
 use Rattle.settlement.specs.Amounts.{settled_by}
 use Rattle.settlement.specs.Settle.{Best}
 
-pub pay-all-requires : goal.pay-all-requires
-pay-all-requires c =
+pub pay_all-requires : goal.pay_all-requires
+pay_all-requires c =
     let b = c.args.balances.now in
-    let made = c.in-Ok.ensures.made in
-    let sets = c.as-slice.ensures.value ∙ c.in-Ok-group-people.ensures.1.groups in
+    let made = c.in-Ok.ensures in
+    let sets = c.as_slice.ensures.value ∙ c.in-Ok-group_people.ensures.1.groups in
     let few = at_most_sixteen b (fixed_groups (cents_of b) (people_of b)) (groups_part b) in
-    record { none = made.0; room = omega (arith, few, made.1.1, ap (λ ts. length (settled_by b ts)) sets) }
+    record { none = made.items; room = omega (arith, few, made.capacity, ap (λ ts. length (settled_by b ts)) sets) }
 
-pub returns-in-Ok-group-people : goal.returns-in-Ok-group-people
-returns-in-Ok-group-people c =
+pub returns-in-Ok-group_people : goal.returns-in-Ok-group_people
+returns-in-Ok-group_people c =
     let b = c.args.balances.now in
-    let grouped = c.in-Ok-group-people.ensures in
-    let exact = c.pay-all.ensures ∙ ap (settled_by b) (c.as-slice.ensures.value ∙ grouped.1.groups) in
+    let grouped = c.in-Ok-group_people.ensures in
+    let exact = c.pay_all.ensures ∙ ap (settled_by b) (c.as_slice.ensures.value ∙ grouped.1.groups) in
     record { room = grouped.0; written = grouped.1.written; exact = exact; best = subst (Best (sides_of b)) (sym exact) (fixed_best b) }
