@@ -15,6 +15,6 @@ loop-person-preserved c =
     let b = c.args.balances.now in
     let i = c.loop-person.person in
     let more = span_next (sides_of b).owes i in
-    let here : c.debt_sum.result ≡ debt (cents_of b i) = search rules in
+    let here : c.debt-sum.result ≡ debt (cents_of b i) = search rules in
     let few = debt_near b i in
     (omega arith, omega arith)

@@ -16,8 +16,8 @@ sum b net i = cents_of b i +ℤ at_person net i
 pub loop-person-init : goal.loop-person-init
 loop-person-init c = first_start _
 
-pub overflow-add-balance : goal.overflow-add-balance
-overflow-add-balance c = let b = near_at c.args.balances.now c.loop-person.person in let n = c.requires c.loop-person.person in search rules
+pub overflow_add-balance : goal.overflow_add-balance
+overflow_add-balance c = let b = near_at c.args.balances.now c.loop-person.person in let n = c.requires c.loop-person.person in search rules
 
 pub returns-then-balance-net-ne0 : goal.returns-then-balance-net-ne0
 returns-then-balance-net-ne0 c =

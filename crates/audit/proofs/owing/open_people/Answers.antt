@@ -17,8 +17,8 @@ loop-person-preserved c =
     let i = c.loop-person.person in
     let more = span_next (counts_one b) i in
     let one : (c.if-balance-ne0.count ≡ c.loop-person.count + counts_one b i) = elim c.if-balance-ne0.branch [
-      | then-balance-ne0 w ↦ let z : cents_of b i ≡ pos 0 → ⊥ = search rules in omega (arith, is_open b i z, w.count_is)
-      | else-balance-ne0 w ↦ let z : cents_of b i ≡ pos 0 = search rules in omega (arith, not_open b i z, w.count_is)
+      | then-balance-ne0 w ↦ let z : cents_of b i ≡ pos 0 → ⊥ = search rules in omega (arith, is_open b i z, w.count-is)
+      | else-balance-ne0 w ↦ let z : cents_of b i ≡ pos 0 = search rules in omega (arith, not_open b i z, w.count-is)
     ] in
     (omega arith, grind arith)
 

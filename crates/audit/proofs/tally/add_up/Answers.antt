@@ -11,9 +11,9 @@ pub loop-at-init : goal.loop-at-init
 unfolding payments_of
 loop-at-init c = (running_none c.args.people, refl)
 
-pub returns-in-default : goal.returns-in-default
-returns-in-default c =
-    let here = ends c.args.people c.loop-at.at c.args.payments.now _ c.loop-at-test.true (sym c.in-default.ensures) in
+pub returns-in_default : goal.returns-in_default
+returns-in_default c =
+    let here = ends c.args.people c.loop-at.at c.args.payments.now _ c.loop-at-test.true (sym c.in_default.ensures) in
     ap (option_map Payment) (sym c.loop-at.invariant.1 ∙ here)
 
 pub pay-requires : goal.pay-requires
@@ -24,8 +24,8 @@ pay-requires c =
       bounds = λ i. omega (arith, net_small _ _ _ _ c.loop-at.invariant.0 i);
     }
 
-pub overflow-add-moved : goal.overflow-add-moved
-overflow-add-moved c =
+pub overflow_add-moved : goal.overflow_add-moved
+overflow_add-moved c =
     let o = in_order c.args.people c.loop-at.at _ _ (sym c.in-Some.ensures) in
     let few = moved_small _ _ _ _ c.loop-at.invariant.0 in
     search rules
