@@ -7,7 +7,7 @@ use std::fmt::Display;
 
 // Adds a value and a newline to the text; the error is want of memory.
 pub(crate) fn write_line<D: Display + Drop>(text: &mut String, value: D) -> Result<(), AllocError>
-    ensures { OnOk result (IfSome (output value) (λ bs. string_bytes text.new ≡ string_bytes text.old ++ as_line bs)) }
+    ensures { OnOk result (IfSome (D.output value) (λ bs. string_bytes text.new ≡ string_bytes text.old ++ as_line bs)) }
 {
     match text.writeln(value) {
         Ok(()) => Ok(()),

@@ -5,5 +5,5 @@ use Rattle.text.proofs.close_book.Goals as goal
 
 pub returns : goal.returns
 returns c =
-    closed _ _ _ _ _ _ _ c.of.ensures c.in-ok-payments.ensures (ap read_payments c.as-slice.ensures.value)
-    c.in-ok-write-balances.ensures c.in-ok-write-payments.ensures
+    closed _ _ _ _ _ _ _ c.of.ensures c.in_ok-payments.ensures (ap read_payments c.as_slice.ensures.value)
+    c.in_ok-write_balances.ensures c.in_ok-write_payments.ensures

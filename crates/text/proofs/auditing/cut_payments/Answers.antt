@@ -11,10 +11,10 @@ loop-length-preserved c =
     let left = c.in-Some.left.now in
     let rest = c.loop-length.rest.now in
     let past = past_line n c.min.result left c.min.ensures in
-    let more = cut_more (vec_items c.loop-length.cut) c.bytes-of.result n left rest c.in-Some.ensures.cases.0 c.bytes-of.ensures in
-    rw (past, c.in-default-push.ensures.items) (more ∙ c.loop-length.invariant)
+    let more = cut_more (vec_items c.loop-length.cut) c.bytes_of.result n left rest c.in-Some.ensures.cases.0 c.bytes_of.ensures in
+    rw (past, c.in_default-push.ensures.items) (more ∙ c.loop-length.invariant)
 
 pub returns : goal.returns
 returns c =
-    let none = nil_from_length c.loop-length.rest.now c.in-default.ensures.cases in
+    let none = nil_from_length c.loop-length.rest.now c.in_default.ensures.cases in
     sym (cut_end (lent (vec_items c.loop-length.cut))) ∙ (rw none at c.loop-length.invariant)

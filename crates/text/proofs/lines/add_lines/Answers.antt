@@ -10,9 +10,9 @@ loop-length-preserved c =
     let left = c.in-Some.left.now in
     let past = past_line n c.min.result left c.min.ensures in
     let more = book_more (held c.loop-length.book) n left c.loop-length.rest.now c.in-Some.ensures.cases.0 in
-    rw (past, c.answer-line.ensures.grown) (more ∙ c.loop-length.invariant)
+    rw (past, c.answer_line.ensures.grown) (more ∙ c.loop-length.invariant)
 
 pub returns : goal.returns
 returns c =
-    let none = nil_from_length c.loop-length.rest.now c.in-default.ensures.cases in
+    let none = nil_from_length c.loop-length.rest.now c.in_default.ensures.cases in
     sym (book_end (held c.loop-length.book)) ∙ (rw none at c.loop-length.invariant)

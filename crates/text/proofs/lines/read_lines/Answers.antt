@@ -12,8 +12,8 @@ loop-length-preserved c =
     let left = c.in-Some.left.now in
     let is = c.in-Some.ensures.cases.0 in
     let past = past_line n c.min.result left c.min.ensures in
-    let written = c.in-ok-write-line.ensures in
-    let answer = c.answer-line-answer in
+    let written = c.in_ok-write_line.ensures in
+    let answer = c.answer_line-answer in
     let rest = c.loop-length.rest.now in
     let text = text_more h n left rest is (reply_of answer.result) (string_bytes c.loop-length.text) answer.ensures.answered in
     let book = book_more h n left rest is in (
@@ -24,7 +24,7 @@ loop-length-preserved c =
 pub returns : goal.returns
 returns c =
     let h = held c.loop-length.book in
-    let none = nil_from_length c.loop-length.rest.now c.in-default.ensures.cases in
+    let none = nil_from_length c.loop-length.rest.now c.in_default.ensures.cases in
     let inv = c.loop-length.invariant in
     record {
       kept = sym (book_end h) ∙ (rw none at inv.1);

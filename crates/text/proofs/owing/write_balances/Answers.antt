@@ -8,4 +8,4 @@ loop-person-init c = sides_none (sides_of c.args.balances.now) (string_bytes c.a
 
 pub loop-person-preserved : goal.loop-person-preserved
 loop-person-preserved c =
-    sides_more (sides_of c.args.balances.now) c.loop-person.person _ _ _ c.loop-person.invariant c.in-ok-write-balance.ensures
+    sides_more (sides_of c.args.balances.now) c.loop-person.person _ _ _ c.loop-person.invariant c.in_ok-write_balance.ensures
