@@ -7,6 +7,7 @@ ghost use Rattle.purser.specs.Faults.{FailsBy, arguments, cause_of, file, input 
 use command::{Command, asked_for};
 use fault::Fault;
 use std::io::Read;
+use std::process::ExitCode;
 use std::{env, fs};
 
 mod command;
@@ -28,12 +29,12 @@ and the payments that settle it. The book is read from FILE, or from standard in
 const VERSION: &str = "purser 1.0.0\n";
 
 // What goes wrong is told on standard error, and the status is then 1.
-fn main(rt: HostRuntime) -> Result<(), Fault> {
-    let done = run(&rt);
-    if let Err(fault) = &done {
-        let _ = eprintln!(rt; "purser: {fault}");
-    }
-    done
+fn main(rt: HostRuntime) -> ExitCode {
+    let Err(fault) = run(&rt) else {
+        return ExitCode::SUCCESS;
+    };
+    let _ = eprintln!(rt; "purser: {fault}");
+    ExitCode::FAILURE
 }
 
 fn run(rt: &HostRuntime) -> Result<(), Fault> {
