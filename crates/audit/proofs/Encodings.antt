@@ -1,7 +1,7 @@
 -- Payments in order, written as bytes, are read back as they were and have no fault.
 use Rattle.std.proofs.Common.{◌≡◌, ℕ, suc, ◌+◌, ◌^◌, ◌<◌, ◌≤◌, false, List, [], ◌∷◌, length, None, refl, ap, ap₂, arith}
 use Rattle.std.proofs.lemmas.Bool.{le-ltb, lt-leb, ne_eqb}
-use Rattle.std.specs.List.{AllByRecursion as All}
+use Rattle.std.specs.List.{AllByRecursion}
 use Rattle.book.specs.Ledger.{Payment}
 use Rattle.audit.specs.Bytes.{eight_bytes, faulty, first_faulty, payment_of, payments_of}
 use Rattle.audit.specs.Encoded.{all_encoded, encoded}
@@ -26,12 +26,12 @@ not_faulty n k p l h =
     rw (late, from, to, other, e, some, small) refl
 
 -- all of them
-pub none_faulty : (n k : ℕ) (ps : List Payment) → k + length ps ≤ 1024 → All (InOrder n) ps → first_faulty n k (all_encoded ps) ≡ None
+pub none_faulty : (n k : ℕ) (ps : List Payment) → k + length ps ≤ 1024 → AllByRecursion (InOrder n) ps → first_faulty n k (all_encoded ps) ≡ None
 unfolding all_encoded
 none_faulty n k [] l h = refl
 none_faulty n k (p ∷ ps) l h = rw (not_faulty n k p (omega arith) h.0) (none_faulty n (suc k) ps (omega arith) h.1)
 
-pub all_back : (n : ℕ) (ps : List Payment) → All (InOrder n) ps → payments_of (all_encoded ps) ≡ ps
+pub all_back : (n : ℕ) (ps : List Payment) → AllByRecursion (InOrder n) ps → payments_of (all_encoded ps) ≡ ps
 unfolding all_encoded payments_of
 all_back n [] h = refl
 all_back n (p ∷ ps) h = ap₂ (λ q qs. q ∷ qs) (payment_back p h.0.small) (all_back n ps h.1)

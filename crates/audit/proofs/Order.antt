@@ -2,7 +2,7 @@
 use Rattle.std.proofs.Common.{◌≡◌, ℕ, zero, suc, ◌+◌, ◌<◌, true, false, List, [], ◌∷◌, length, get_or, Some, None, sym, refl, ap, ◌∙◌, inl, inr, arith}
 use Rattle.std.proofs.lemmas.Bool.{cases_Bool}
 use Rattle.audit.specs.Bytes.{faulty, first_faulty}
-use Rattle.audit.specs.Promise.{FirstOutOfOrder, StopsAt}
+use Rattle.audit.specs.Promise.{FirstOutOfOrder}
 
 -- the same of a list that begins with payment m
 record StopsFrom (n m : ℕ) (bss : List (List ℕ)) (k : ℕ) : Type 0 where

@@ -1,7 +1,7 @@
 -- The auditor's answer to the payments that settle a book.
 use Rattle.std.proofs.Common.{◌≡◌, ℕ, ◌≤◌, List, map, length, ℤ, None, Ok, Err, sym, ap, subst, arith}
 use mathlib.Core.Path.{fun_ext}
-use Rattle.std.specs.List.{AllByRecursion as All}
+use Rattle.std.specs.List.{AllByRecursion}
 use Rattle.balances.proofs.Signs.{one_of}
 use Rattle.balances.specs.Tally.{Counted, balance_of}
 use Rattle.balances.specs.View.{cents_of, people_of}
@@ -26,7 +26,7 @@ use Rattle.audit.specs.Running.{InOrder}
 
 -- few payments, all in order
 abbrev Sent : ℕ → List Payment → Type 0
-Sent n ps = All (InOrder n) ps × (length ps ≤ 16)
+Sent n ps = AllByRecursion (InOrder n) ps × (length ps ≤ 16)
 
 crew_sent : (b : Balances) → Sent (people_of b) (settlement (people_of b) (fixed_groups (cents_of b) (people_of b)) (cents_of b))
 unfolding settlement

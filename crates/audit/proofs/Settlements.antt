@@ -2,7 +2,7 @@
 use Rattle.std.proofs.Common.{◌≡◌, ℕ, zero, suc, ◌^◌, ◌<◌, ◌≤◌, min, Bool, List, [], ◌∷◌, sym, refl, ap, subst, inl, inr, arith}
 use Rattle.std.proofs.ByRecursion.{All-append}
 use Rattle.std.proofs.lemmas.Bool.{and_parts, cases_lt, ltb-true}
-use Rattle.std.specs.List.{AllByRecursion as All}
+use Rattle.std.specs.List.{AllByRecursion}
 use Rattle.settlement.proofs.Firsts.{first_passes}
 use Rattle.settlement.proofs.Paid.{OneSide}
 use Rattle.settlement.proofs.Steps.{payments_end, payments_more}
@@ -22,7 +22,7 @@ less_le f p a i m l = grind arith
 
 module _ (n : ℕ) (m : ℕ → Bool) where
   group_in_order : (k : ℕ) (owes owed : ℕ → ℕ) → OneSide n owes owed → ((i : ℕ) → owes i ≤ 2 ^ 48) →
-      All (InOrder n) (group_payments k n m owes owed)
+      AllByRecursion (InOrder n) (group_payments k n m owes owed)
   unfolding group_payments
   group_in_order zero owes owed one few = tt
   group_in_order (suc k) owes owed one few =
@@ -30,13 +30,13 @@ module _ (n : ℕ) (m : ℕ → Bool) where
       let q : ℕ = first (has m owed) n in
       let a : ℕ = min (owes p) (owed q) in
       elim (cases_lt p n) [
-        | inr l ↦ subst (All (InOrder n)) (sym (payments_end k n m owes owed (inl l))) tt
+        | inr l ↦ subst (AllByRecursion (InOrder n)) (sym (payments_end k n m owes owed (inl l))) tt
         | inl pl ↦ elim (cases_lt q n) [
-          | inr l ↦ subst (All (InOrder n)) (sym (payments_end k n m owes owed (inr l))) tt
+          | inr l ↦ subst (AllByRecursion (InOrder n)) (sym (payments_end k n m owes owed (inr l))) tt
           | inl ql ↦
               let x = has_some n m owes pl in
               let y = has_some n m owed ql in
-              subst (All (InOrder n)) (sym (payments_more k n m owes owed p q refl refl pl ql)) (
+              subst (AllByRecursion (InOrder n)) (sym (payments_more k n m owes owed p q refl refl pl ql)) (
                 record {
                   from_there = pl;
                   to_there = ql;
@@ -51,7 +51,7 @@ module _ (n : ℕ) (m : ℕ → Bool) where
 
 -- of all groups
 pub all_in_order : (n : ℕ) (ms : List (ℕ → Bool)) (owes owed : ℕ → ℕ) → OneSide n owes owed → ((i : ℕ) → owes i ≤ 2 ^ 48) →
-    All (InOrder n) (all_payments n ms owes owed)
+    AllByRecursion (InOrder n) (all_payments n ms owes owed)
 unfolding all_payments
 all_in_order n [] owes owed one few = tt
 all_in_order n (m ∷ ms) owes owed one few =

@@ -1,6 +1,6 @@
 -- Sums over payments: their bounds, and one payment more.
 use Rattle.std.proofs.Common.{◌≡◌, ℕ, ◌+◌, ◌*◌, ◌≤◌, eqb, List, [], ◌∷◌, ◌++◌, length, arith}
-use Rattle.std.specs.List.{AllByRecursion as All}
+use Rattle.std.specs.List.{AllByRecursion}
 use Rattle.shares.specs.Bill.{pick}
 use Rattle.book.specs.Ledger.{Payment}
 use Rattle.settlement.specs.Settle.{out, into, money}
@@ -18,7 +18,7 @@ into_le [] i = omega arith
 into_le (p ∷ ps) i = grind (arith, into_le ps i)
 
 -- payments of at most m each
-pub money_le : (m : ℕ) (ps : List Payment) → All (λ p. p.amount ≤ m) ps → money ps ≤ length ps * m
+pub money_le : (m : ℕ) (ps : List Payment) → AllByRecursion (λ p. p.amount ≤ m) ps → money ps ≤ length ps * m
 unfolding money
 money_le m [] h = omega arith
 money_le m (p ∷ ps) h = omega (arith, h.0, money_le m ps h.1)

@@ -1,6 +1,6 @@
 -- What payments come to for each person and in all, while they are read.
-use Rattle.std.specs.Prelude.{◌≡◌, ℕ, ◌+◌, ◌^◌, ◌<◌, ◌≤◌, Bool, not, List, length, ℤ, pos, ◌+ℤ◌, ◌-ℤ◌, slice_set}
-use Rattle.std.specs.List.{AllByRecursion as All}
+use Rattle.std.specs.Prelude.{◌≡◌, ℕ, ◌^◌, ◌<◌, ◌≤◌, Bool, not, List, length, ℤ, pos, ◌+ℤ◌, ◌-ℤ◌, slice_set}
+use Rattle.std.specs.List.{AllByRecursion}
 use Rattle.balances.specs.Signed.{at_person}
 use Rattle.book.specs.Ledger.{Payment}
 use Rattle.groups.specs.Signs.{is_zero}
@@ -32,7 +32,7 @@ pub record InOrder (n : ℕ) (p : Payment) : Type 0 where
 -- a table and a sum of at most 1,024 payments in order among n people
 pub record Running (n : ℕ) (ps : List Payment) (net : List ℤ) (moved : ℕ) : Type 0 where
   pub few : length ps ≤ 1024
-  pub each : All (InOrder n) ps
+  pub each : AllByRecursion (InOrder n) ps
   pub long : length net ≡ 16
   pub netted : (i : ℕ) → i < 16 → at_person net i ≡ net_of ps i
   pub summed : moved ≡ money ps

@@ -1,6 +1,6 @@
 -- What each verdict says of a list of payments.
 use Rattle.std.specs.Prelude.{◌≡◌, ℕ, ◌+◌, ◌<◌, ◌≤◌, Bool, true, false, List, length}
-use Rattle.std.specs.List.{AllByRecursion as All}
+use Rattle.std.specs.List.{AllByRecursion}
 use Rattle.balances.specs.Even.{Balances}
 use Rattle.book.specs.Ledger.{Payment}
 use Rattle.settlement.specs.Settle.{out, into, money, Settles}
@@ -9,7 +9,7 @@ use Rattle.audit.specs.declared.verdict.Verdict.TheVariants.{FewestAndLeast, Few
 
 -- each payment is among the people
 abbrev pub Among : Balances → List Payment → Type 0
-Among b ps = All (λ p. (p.from < b.people) × (p.to < b.people)) ps
+Among b ps = AllByRecursion (λ p. (p.from < b.people) × (p.to < b.people)) ps
 
 -- what person i owes and gets is what it is owed and pays
 abbrev pub Quit : Balances → List Payment → ℕ → Type 0

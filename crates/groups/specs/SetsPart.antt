@@ -1,6 +1,6 @@
 -- Lists of groups, each a test on people, that part the people with something open.
 use Rattle.std.specs.Prelude.{◌≡◌, ℕ, ◌+◌, ◌<◌, Bool, true, List, [], ◌∷◌}
-use Rattle.std.specs.List.{AllByRecursion as All}
+use Rattle.std.specs.List.{AllByRecursion}
 use Rattle.shares.specs.Bill.{pick}
 use Rattle.shares.specs.Span.{span}
 use Rattle.balances.specs.Even.{Balances}
@@ -22,4 +22,4 @@ pub record EvenGroup (b : Balances) (m : ℕ → Bool) : Type 0 where
 -- each open person is in one group, and each group comes out even
 pub record SetsPart (b : Balances) (ms : List (ℕ → Bool)) : Type 0 where
   pub once : (i : ℕ) → i < b.people → 0 < b.owes i + b.owed i → times ms 1 i ≡ 1
-  pub each : All (EvenGroup b) ms
+  pub each : AllByRecursion (EvenGroup b) ms

@@ -1,6 +1,6 @@
 -- Classes of people that payments join, and sums over a class.
 use Rattle.std.proofs.Common.{◌≡◌, ℕ, suc, ◌+◌, ◌<◌, ◌≤◌, eqb, ltb, List, [], ◌∷◌, length, refl, ap, inl, inr, arith}
-use Rattle.std.specs.List.{AllByRecursion as All}
+use Rattle.std.specs.List.{AllByRecursion}
 use Rattle.std.proofs.ByRecursion.{All-weaker}
 use Rattle.std.proofs.lemmas.Bool.{cases_eq}
 use Rattle.shares.specs.Bill.{pick}
@@ -28,11 +28,11 @@ classes (p ∷ ps) i = merged (classes ps p.to) (classes ps p.from) (classes ps 
 
 -- each payment is among n people and stays in a class
 abbrev pub Inside : ℕ → (ℕ → ℕ) → List Payment → Type 0
-Inside n c ps = All (λ p. (p.from < n) × (p.to < n) × (c p.from ≡ c p.to)) ps
+Inside n c ps = AllByRecursion (λ p. (p.from < n) × (p.to < n) × (c p.from ≡ c p.to)) ps
 
 -- each payment is among n people
 abbrev pub Among : ℕ → List Payment → Type 0
-Among n ps = All (λ p. (p.from < n) × (p.to < n)) ps
+Among n ps = AllByRecursion (λ p. (p.from < n) × (p.to < n)) ps
 
 -- what stays in a class stays in one where classes are joined
 inside_map : (n : ℕ) (c f : ℕ → ℕ) (ps : List Payment) → Inside n c ps → Inside n (λ i. f (c i)) ps

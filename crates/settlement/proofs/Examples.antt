@@ -1,6 +1,5 @@
 -- The example crews: their groups are computed, and their payments from these.
-use Rattle.std.proofs.Common.{◌≡◌, length, refl, ap, ◌∙◌}
-use Rattle.balances.specs.Signed.{at_person}
+use Rattle.std.proofs.Common.{length, refl, ap}
 use Rattle.groups.proofs.CrewsGrouped.{crews_grouped}
 use Rattle.groups.specs.Sets.{is_in}
 use Rattle.settlement.specs.Crews.{CrewsSettled}

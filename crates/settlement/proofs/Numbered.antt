@@ -1,6 +1,6 @@
 -- Groups by number as groups by tests.
 use Rattle.std.proofs.Common.{◌≡◌, ℕ, zero, suc, ◌<◌, Bool, eqb, ltb, List, [], ◌∷◌, length, refl, arith}
-use Rattle.std.specs.List.{AllByRecursion as All}
+use Rattle.std.specs.List.{AllByRecursion}
 use Rattle.shares.specs.Bill.{pick}
 use Rattle.groups.specs.SetsPart.{times, EvenGroup}
 use Rattle.settlement.specs.Paying.{all_payments}
@@ -22,7 +22,7 @@ unfolding numbered times
 numbered_times group zero i = grind arith
 numbered_times group (suc g) i = grind (arith, numbered_times group g i)
 
-numbered_each : (P : (ℕ → Bool) → Type 0) (group : ℕ → ℕ) (g : ℕ) → ((j : ℕ) → j < g → P (λ i. eqb (group i) j)) → All P (numbered group g)
+numbered_each : (P : (ℕ → Bool) → Type 0) (group : ℕ → ℕ) (g : ℕ) → ((j : ℕ) → j < g → P (λ i. eqb (group i) j)) → AllByRecursion P (numbered group g)
 unfolding numbered
 numbered_each P group zero h = tt
 numbered_each P group (suc g) h = (h g (omega arith), numbered_each P group g (λ j l. h j (omega arith)))

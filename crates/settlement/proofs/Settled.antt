@@ -1,7 +1,7 @@
 -- Groups that part the open people give a settlement.
 use Rattle.std.proofs.Common.{◌≡◌, ℕ, suc, ◌+◌, ◌<◌, ◌≤◌, Bool, List, [], ◌∷◌, map, length, sym, refl, inl, inr, arith, length-append}
 use lib.ListN.{length-map}
-use Rattle.std.specs.List.{AllByRecursion as All}
+use Rattle.std.specs.List.{AllByRecursion}
 use Rattle.std.proofs.ByRecursion.{All-append, All-get_or}
 use Rattle.std.proofs.lemmas.Bool.{cases_lt}
 use Rattle.shares.specs.Bill.{pick}
@@ -43,7 +43,7 @@ record PaidAll (b : Balances) (ms : List (ℕ → Bool)) (ps : List Payment) : T
   moves : money ps ≡ span (λ i. times ms (b.owes i) i) b.people
   few : length ps + length ms ≤ span (λ i. times ms (one_open b.owes b.owed i) i) b.people
 
-paid_all : (b : Balances) → Even b → (ms : List (ℕ → Bool)) → All (EvenGroup b) ms → PaidAll b ms (all_payments b.people ms b.owes b.owed)
+paid_all : (b : Balances) → Even b → (ms : List (ℕ → Bool)) → AllByRecursion (EvenGroup b) ms → PaidAll b ms (all_payments b.people ms b.owes b.owed)
 unfolding all_payments out into money times
 paid_all b e [] h = record {
   there = tt;

@@ -1,5 +1,5 @@
 -- Laws of auditing: the bytes of payments, one after another, the refusals where both tables are long enough, and what is found of an input.
-use Rattle.std.proofs.Common.{◌≡◌, ℕ, ◌≤◌, Bool, true, false, List, [], ◌∷◌, ◌++◌, map, length, drop, ℤ, IfErr, Some, None, Ok, Err, Option, Result, sym, refl, ap, ◌∙◌, subst, append_assoc, arith, Bor}
+use Rattle.std.proofs.Common.{◌≡◌, ℕ, ◌≤◌, Bool, true, false, List, [], ◌∷◌, ◌++◌, length, drop, ℤ, IfErr, Some, None, Ok, Err, Option, Result, sym, refl, ap, ◌∙◌, subst, append_assoc, arith, Bor}
 use Rattle.audit.proofs.Verdicts.{only_one}
 use Rattle.audit.specs.Audited.{Audited, TurnedAway}
 use Rattle.audit.specs.Bytes.{first_faulty, lent, payments_of}
@@ -21,7 +21,7 @@ use Rattle.std.specs.Option.{option_map}
 use Rattle.text.proofs.Payments.{tables_suffice}
 use Rattle.text.proofs.Pieces.{pieces_more, pieces_none}
 use Rattle.text.proofs.Taken.{answered_lines, book_people}
-use Rattle.text.specs.Auditing.{Found, FoundBy, JudgedAs, JudgedText, OneText, outcome_said, payment_bytes, payments_in}
+use Rattle.text.specs.Auditing.{Found, FoundBy, JudgedAs, OneText, outcome_said, payment_bytes, payments_in}
 use Rattle.text.specs.Pieces.{piece, pieces}
 use Rattle.text.specs.Report.{answered_in, empty, people_in, pieces_in}
 use Rattle.text.specs.Run.{book_after}

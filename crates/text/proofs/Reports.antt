@@ -1,5 +1,5 @@
 -- Laws of the whole text: closing a book, the lines before it, and the input.
-use Rattle.std.proofs.Common.{◌≡◌, ℕ, Bool, true, false, List, [], ◌++◌, drop, sym, refl, ap, ◌∙◌, subst, append_assoc, arith}
+use Rattle.std.proofs.Common.{◌≡◌, ℕ, Bool, true, false, List, [], ◌++◌, drop, sym, ap, ◌∙◌, subst, append_assoc, arith}
 use Rattle.balances.specs.Tally.{Counted}
 use Rattle.balances.specs.View.{sides_of}
 use Rattle.balances.specs.declared.sheet.Balances.{Balances}

@@ -1,5 +1,5 @@
 -- Laws of the lines of balances: one person after another.
-use Rattle.std.proofs.Common.{◌≡◌, ℕ, ◌+◌, List, [], ◌++◌, sym, refl, append_assoc, add-one}
+use Rattle.std.proofs.Common.{◌≡◌, ℕ, ◌+◌, List, ◌++◌, sym, append_assoc, add-one}
 use Rattle.balances.specs.Even.{Balances}
 use Rattle.std.proofs.lemmas.List.{append-nil}
 use Rattle.text.specs.Sides.{balance_said, sides_said}

@@ -9,7 +9,6 @@ use Rattle.book.specs.Rows.{at_place, first_row, no_kind, rows, rows_of_cut, tol
 use Rattle.book.specs.declared.line.Entry.{Entry}
 use Rattle.settlement.specs.Settled.{book_lines}
 use Rattle.std.proofs.lemmas.List.{append-nil, map-append}
-use Rattle.text.specs.Answers.{Reply}
 use Rattle.text.specs.Pieces.{Piece, cut, whole}
 use Rattle.text.specs.Run.{after, answered, answered_by, book_after, by_row, line_said, replies, reply, with_line}
 

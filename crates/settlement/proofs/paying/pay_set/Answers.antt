@@ -1,5 +1,5 @@
 -- Each turn moves one payment from what is left to what was paid.
-use Rattle.std.proofs.Common.{refl, ap, ◌∙◌, inl, inr, arith, length-append}
+use Rattle.std.proofs.Common.{refl, ◌∙◌, inl, inr, arith, length-append}
 use native.Mathlib.Nat.{sub-zero}
 use Rattle.settlement.proofs.Read.{read_length}
 use Rattle.settlement.proofs.Turns.{turn_room, turn_again, turn_none, turn_last}

@@ -1,4 +1,4 @@
-use Rattle.std.proofs.Common.{◌≡◌, length, sym, ap, ◌∙◌, subst, arith}
+use Rattle.std.proofs.Common.{length, sym, ap, ◌∙◌, subst, arith}
 use Rattle.balances.specs.View.{cents_of, people_of, sides_of}
 use Rattle.groups.proofs.PartedSets.{groups_part}
 use Rattle.groups.specs.Fixed.{fixed_groups}
