@@ -1,7 +1,8 @@
 #!/usr/bin/env python3
 """Makes the example books and works out what the program must print for them.
 
-usage: examples/make.py        (from any folder; writes NAME.book and NAME.report beside itself)
+usage: examples/make.py        (from any folder; writes NAME.book and NAME.report beside itself, and copies of them into
+                              crates/examples/data, where the gate runs a program on them)
 
 The reports come from `report` below, which is written from the rules of docs/ and shares no code with the program:
 it looks for groups over partings, where the program counts them for all sets.
@@ -224,10 +225,11 @@ def main():
     here = os.path.dirname(os.path.abspath(__file__))
     for make in (cab, week, season):
         data = make()
-        with open(os.path.join(here, make.__name__ + ".book"), "wb") as f:
-            f.write(data)
-        with open(os.path.join(here, make.__name__ + ".report"), "w") as f:
-            f.write(report(data))
+        for folder in here, os.path.join(here, "..", "crates", "examples", "data"):
+            with open(os.path.join(folder, make.__name__ + ".book"), "wb") as f:
+                f.write(data)
+            with open(os.path.join(folder, make.__name__ + ".report"), "w") as f:
+                f.write(report(data))
 
 
 if __name__ == "__main__":

@@ -9,8 +9,8 @@ pub data Cause : Type 0 where
   arguments : Cause
   words : Cause
   file : Word → Cause
-  input : Cause
-  output : Cause
+  standard_input : Cause
+  standard_output : Cause
   memory : Cause
 
 abbrev pub cause_of : Fault → Cause
@@ -18,13 +18,13 @@ cause_of (Arguments why) = arguments
 cause_of (UnknownArgument word) = words
 cause_of NoPayments = words
 cause_of (File name why) = file name
-cause_of (Input why) = input
-cause_of (Output why) = output
+cause_of (Input why) = standard_input
+cause_of (Output why) = standard_output
 cause_of Memory = memory
 
 -- the book is read from the file of that name, or from standard input
 abbrev pub source : Option Word → Cause
-source None = input
+source None = standard_input
 source (Some name) = file name
 
 -- what can go wrong with a text: there is no memory for it, or it cannot be written
@@ -32,8 +32,8 @@ abbrev pub of_text : Cause → Bool
 of_text arguments = false
 of_text words = false
 of_text (file name) = false
-of_text input = false
-of_text output = true
+of_text standard_input = false
+of_text standard_output = true
 of_text memory = true
 
 -- where it fails, it is for that cause

@@ -2,7 +2,7 @@
 #![tactic(auto)]
 
 ghost use Rattle.std.specs.Prelude.{◌≡◌, true, IfErr};
-ghost use Rattle.purser.specs.Faults.{FailsBy, arguments, cause_of, file, input as standard-input, of_text, output, source};
+ghost use Rattle.purser.specs.Faults.{FailsBy, arguments, cause_of, file, of_text, source, standard_input, standard_output};
 
 use command::{Command, asked_for};
 use fault::Fault;
@@ -75,7 +75,7 @@ fn read_book(rt: &HostRuntime, name: Option<String>) -> Result<Vec<u8>, Fault>
 }
 
 fn read_input(rt: &HostRuntime) -> Result<Vec<u8>, Fault>
-    ensures { FailsBy standard-input result }
+    ensures { FailsBy standard_input result }
 {
     let mut input = Vec::new(rt.alloc());
     match rt.stdin().read_to_end(&mut input) {
@@ -113,7 +113,7 @@ fn print_verdict(rt: &HostRuntime, payments: Vec<u8>, book: Vec<u8>) -> Result<(
 }
 
 fn print(rt: &HostRuntime, text: &str) -> Result<(), Fault>
-    ensures { FailsBy output result }
+    ensures { FailsBy standard_output result }
 {
     match rt.print(text) {
         Ok(()) => Ok(()),
