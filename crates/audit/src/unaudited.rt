@@ -4,7 +4,7 @@ ghost use Rattle.audit.specs.Refused.{unaudited_code};
 
 use groups::short::Short;
 
-#[derive(Clone, Copy)]
+#[derive(Clone, Copy, Debug, PartialEq, Eq)]
 pub enum Unaudited {
     // a table has too few entries
     Short(Short),

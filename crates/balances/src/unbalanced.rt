@@ -1,5 +1,5 @@
 // Why numbers from elsewhere are no balances.
-#[derive(Clone, Copy)]
+#[derive(Clone, Copy, Debug, PartialEq, Eq)]
 pub enum Unbalanced {
     // more than sixteen people
     TooMany,

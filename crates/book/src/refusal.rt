@@ -5,7 +5,7 @@ ghost use Rattle.book.specs.Words.{refused_at};
 
 use std::fmt;
 
-#[derive(Clone, Copy)]
+#[derive(Clone, Copy, Debug, PartialEq, Eq)]
 pub enum Refusal {
     // not 1 to 16 people
     CrewSize,
