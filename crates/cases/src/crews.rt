@@ -1,12 +1,33 @@
 // Crews with their payments, from person 0 on: below 0 owes, above 0 is owed.
+ghost use Rattle.std.specs.Prelude.{◌≡◌};
+ghost use Rattle.cases.specs.Told.{short_told};
+
 use balances::sheet::Balances;
 use book::ledger::Book;
 use groups::ungrouped::Ungrouped;
+use settlement::payment::Payment;
 use settlement::settling::{settle, settle_balances};
 use std::test::Fail;
 
-// Payments as from, to and amount.
+// A payment as from, to and amount.
 type Row = (u8, u8, u64);
+
+// A payment as a row.
+fn row_of(payment: &Payment) -> Row
+    ensures { result ≡ (payment.now.from, payment.now.to, payment.now.amount) }
+{
+    (payment.from, payment.to, payment.amount)
+}
+
+// The number and place of a table that was too short, if one was.
+fn short_of(answer: Result<Vec<Payment>, Ungrouped>) -> Option<(u8, usize)>
+    ensures { result ≡ short_told answer }
+{
+    match answer {
+        Err(Ungrouped::Short(short)) => Some((short.number(), short.place())),
+        _ => None,
+    }
+}
 
 #[test]
 fn example_crews(rt: HostRuntime) -> Result<(), Fail> {
@@ -31,38 +52,24 @@ fn example_crews(rt: HostRuntime) -> Result<(), Fail> {
     for (cents, rows) in table {
         let mut sums = [0i64; 64];
         let mut counts = [0u8; 64];
-        let Ok(balances) = Balances::from_cents(cents) else {
-            return Err(Fail::new("no balances"));
-        };
-        let Ok(payments) = settle_balances(rt.alloc(), &balances, &mut sums, &mut counts) else {
-            return Err(Fail::new("not settled"));
-        };
-        assert_eq!(rt; payments.len(), rows.len());
-        for (payment, row) in payments.iter().zip(rows.iter()) {
-            assert_eq!(rt; (payment.from, payment.to, payment.amount), *row);
-        }
+        let balances = Balances::from_cents(cents)?;
+        let payments = settle_balances(rt.alloc(), &balances, &mut sums, &mut counts)?;
+        let paid: Vec<Row> = payments.iter().map(row_of).collect(rt.alloc())?;
+        assert_eq!(rt; paid.as_slice(), rows);
     }
     Ok(())
 }
 
 #[test]
 fn example_book(rt: HostRuntime) -> Result<(), Fail> {
-    let Ok(mut book) = Book::new(rt.alloc(), 3, 8) else {
-        return Err(Fail::new("no book"));
-    };
-    assert!(rt; book.add(&[1, 0, 100, 0, 0, 0, 1, 0, 1, 0, 1, 0]).is_ok());
-    assert!(rt; book.add(&[2, 1, 0, 10, 0, 0, 0]).is_ok());
+    let mut book = Book::new(rt.alloc(), 3, 8)?;
+    book.add(&[1, 0, 100, 0, 0, 0, 1, 0, 1, 0, 1, 0])?;
+    book.add(&[2, 1, 0, 10, 0, 0, 0])?;
     let mut sums = [9i64; 9];
     let mut counts = [9u8; 9];
-    let Ok(payments) = settle(rt.alloc(), &book, &mut sums, &mut counts) else {
-        return Err(Fail::new("not settled"));
-    };
-    let mut rows = [(0, 0, 0); 2];
-    assert_eq!(rt; payments.len(), 2);
-    for (row, payment) in rows.iter_mut().zip(payments.iter()) {
-        *row = (payment.from, payment.to, payment.amount);
-    }
-    assert_eq!(rt; rows, [(1, 0, 23), (2, 0, 34)]);
+    let payments = settle(rt.alloc(), &book, &mut sums, &mut counts)?;
+    let paid: Vec<Row> = payments.iter().map(row_of).collect(rt.alloc())?;
+    assert_eq!(rt; paid.as_slice(), [(1, 0, 23), (2, 0, 34)].as_slice());
     // the sums of the sets of 57, -23 and -34, and the entry past them as it was
     assert_eq!(rt; sums, [0, 57, -23, 34, -34, 23, -57, 0, 9]);
     assert_eq!(rt; counts, [0, 0, 0, 0, 0, 0, 0, 1, 9]);
@@ -71,25 +78,17 @@ fn example_book(rt: HostRuntime) -> Result<(), Fail> {
 
 #[test]
 fn short_tables(rt: HostRuntime) -> Result<(), Fail> {
-    let Ok(balances) = Balances::from_cents(&[-1, 1, 0]) else {
-        return Err(Fail::new("no balances"));
-    };
+    let balances = Balances::from_cents(&[-1, 1, 0])?;
     let mut sums = [5i64; 8];
     let mut short_sums = [5i64; 7];
     let mut counts = [6u8; 8];
     let mut short_counts = [6u8; 7];
-    match settle_balances(rt.alloc(), &balances, &mut short_sums, &mut short_counts) {
-        Err(Ungrouped::Short(short)) => assert_eq!(rt; (short.number(), short.place()), (11, 1)),
-        _ => return Err(Fail::new("short sums were taken")),
-    }
-    match settle_balances(rt.alloc(), &balances, &mut sums, &mut short_counts) {
-        Err(Ungrouped::Short(short)) => assert_eq!(rt; (short.number(), short.place()), (11, 2)),
-        _ => return Err(Fail::new("short counts were taken")),
-    }
-    match settle_balances(rt.alloc(), &balances, &mut short_sums, &mut counts) {
-        Err(Ungrouped::Short(short)) => assert_eq!(rt; (short.number(), short.place()), (11, 1)),
-        _ => return Err(Fail::new("short sums were taken")),
-    }
+    let both = settle_balances(rt.alloc(), &balances, &mut short_sums, &mut short_counts);
+    assert_eq!(rt; short_of(both), Some((11, 1)));
+    let last = settle_balances(rt.alloc(), &balances, &mut sums, &mut short_counts);
+    assert_eq!(rt; short_of(last), Some((11, 2)));
+    let first = settle_balances(rt.alloc(), &balances, &mut short_sums, &mut counts);
+    assert_eq!(rt; short_of(first), Some((11, 1)));
     assert_eq!(rt; short_sums, [5; 7]);
     assert_eq!(rt; short_counts, [6; 7]);
     assert_eq!(rt; sums, [5; 8]);

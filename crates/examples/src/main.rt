@@ -7,13 +7,15 @@ fn main(rt: HostRuntime) -> anyhow::Result<()> {
     run(&rt)
 }
 
+// Compares them one after the other, and stops at the first that cannot be read.
 fn run(rt: &HostRuntime) -> anyhow::Result<()> {
-    compare(rt, "cab")?;
-    compare(rt, "week")?;
-    compare(rt, "season")?;
+    for name in ["cab", "week", "season"] {
+        compare(rt, name)?;
+    }
     Ok(())
 }
 
+// Says of one book whether its report is the same.
 fn compare(rt: &HostRuntime, name: &str) -> anyhow::Result<()> {
     let heap = rt.alloc();
     let input = fs::read(rt, format!(in heap; "{name}.book")?)?;

@@ -1,6 +1,9 @@
 // What the program's arguments ask for.
-ghost use Rattle.std.specs.Prelude.{◌≡◌};
+ghost use Rattle.std.specs.Prelude.{◌≡◌, slice_get};
+ghost use Rattle.std.specs.Vec.Iter.{into_iter_items};
 ghost use Rattle.purser.specs.Asked.{asked, asked_alone, asked_by, audit_after, audit_of, is_option};
+
+use std::env::Args;
 
 #[derive(Drop)]
 pub enum Command {
@@ -22,68 +25,37 @@ pub enum Command {
 }
 
 // By the first four arguments, if there are any.
-pub fn asked_for(
-    first: Option<String>,
-    second: Option<String>,
-    third: Option<String>,
-    fourth: Option<String>,
-) -> Command
-    ensures { result ≡ asked first second third fourth }
+pub fn asked_for(mut words: Args) -> Command
+    ensures { let word = slice_get (into_iter_items words) in result ≡ asked (word 0) (word 1) (word 2) (word 3) }
 {
-    match first {
+    match words.next() {
         None => Command::Input,
-        Some(word) => {
-            if word.as_str() == "--audit" {
-                audit_after(second, third, fourth)
-            } else {
-                asked_alone(word, second)
-            }
-        }
+        Some(word) if word.as_str() == "--audit" => audit_after(words),
+        Some(word) => asked_alone(word, words.next()),
     }
 }
 
 // By the words after --audit: a file of payments, a file of the book if there is one, and nothing more.
-fn audit_after(payments: Option<String>, book: Option<String>, more: Option<String>) -> Command
-    ensures { result ≡ audit_after payments book more }
+fn audit_after(mut words: Args) -> Command
+    ensures { let word = slice_get (into_iter_items words) in result ≡ audit_after (word 0) (word 1) (word 2) }
 {
-    match payments {
+    match words.next() {
         None => Command::NoPayments,
-        Some(payments) => {
-            if is_option(&payments) {
-                Command::Unknown(payments)
-            } else {
-                audit_of(payments, book, more)
-            }
-        }
+        Some(payments) if is_option(&payments) => Command::Unknown(payments),
+        Some(payments) => audit_of(payments, words),
     }
 }
 
 // By a file of payments and the words after it.
-fn audit_of(payments: String, book: Option<String>, more: Option<String>) -> Command
-    ensures { result ≡ audit_of payments book more }
+fn audit_of(payments: String, mut words: Args) -> Command
+    ensures { let word = slice_get (into_iter_items words) in result ≡ audit_of payments (word 0) (word 1) }
 {
-    match (book, more) {
-        (None, _) => Command::Audit {
-            payments,
-            book: None,
+    match words.next() {
+        Some(book) if is_option(&book) => Command::Unknown(book),
+        book => match words.next() {
+            None => Command::Audit { payments, book },
+            Some(word) => Command::Unknown(word),
         },
-        (Some(book), None) => {
-            if is_option(&book) {
-                Command::Unknown(book)
-            } else {
-                Command::Audit {
-                    payments,
-                    book: Some(book),
-                }
-            }
-        }
-        (Some(book), Some(word)) => {
-            if is_option(&book) {
-                Command::Unknown(book)
-            } else {
-                Command::Unknown(word)
-            }
-        }
     }
 }
 
@@ -91,12 +63,10 @@ fn audit_of(payments: String, book: Option<String>, more: Option<String>) -> Com
 fn asked_alone(word: String, second: Option<String>) -> Command
     ensures { result ≡ asked_alone word second }
 {
-    match second {
-        None => asked_by(word),
-        Some(second) => match asked_by(word) {
-            Command::Unknown(word) => Command::Unknown(word),
-            _ => Command::Unknown(second),
-        },
+    match (asked_by(word), second) {
+        (command, None) => command,
+        (Command::Unknown(word), _) => Command::Unknown(word),
+        (_, Some(second)) => Command::Unknown(second),
     }
 }
 
@@ -104,14 +74,11 @@ fn asked_alone(word: String, second: Option<String>) -> Command
 fn asked_by(word: String) -> Command
     ensures { result ≡ asked_by word }
 {
-    if word.as_str() == "--help" {
-        Command::Help
-    } else if word.as_str() == "--version" {
-        Command::Version
-    } else if is_option(&word) {
-        Command::Unknown(word)
-    } else {
-        Command::File(word)
+    match word.as_str() {
+        "--help" => Command::Help,
+        "--version" => Command::Version,
+        text if is_option(text) => Command::Unknown(word),
+        _ => Command::File(word),
     }
 }
 
@@ -119,8 +86,5 @@ fn asked_by(word: String) -> Command
 fn is_option(word: &str) -> bool
     ensures { result ≡ is_option word.now }
 {
-    match word.as_bytes().first() {
-        Some(first) => *first == b'-',
-        None => false,
-    }
+    word.starts_with('-')
 }

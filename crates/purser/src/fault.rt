@@ -1,9 +1,13 @@
 // What can go wrong in the program.
+ghost use Rattle.std.specs.Prelude.{◌≡◌};
 ghost use Rattle.purser.specs.Faults.{fault_said};
+ghost use Rattle.purser.specs.declared.fault.Fault.TheVariants as variant;
 
+use std::alloc::AllocError;
+use std::error::Error;
 use std::{fmt, io};
 
-#[derive(Drop)]
+#[derive(Debug, Drop)]
 pub enum Fault {
     Arguments(io::Error),
     UnknownArgument(String),
@@ -35,5 +39,16 @@ impl fmt::Display for Fault {
             Fault::Output(why) => write!(f, "cannot write to standard output: {why}"),
             Fault::Memory => write!(f, "too little memory"),
         }
+    }
+}
+
+impl Error for Fault {}
+
+// Want of memory for a text is a fault of memory.
+impl From<AllocError> for Fault {
+    ghost from_gives = { λ _ e. e ≡ variant.Memory };
+
+    fn from(_: AllocError) -> Fault {
+        Self::Memory
     }
 }

@@ -6,9 +6,12 @@ ghost use Rattle.purser.specs.Faults.{FailsBy, arguments, cause_of, file, of_tex
 
 use command::{Command, asked_for};
 use fault::Fault;
+use std::alloc::AllocError;
 use std::io::Read;
 use std::process::ExitCode;
 use std::{env, fs};
+use text::auditing::verdict;
+use text::report;
 
 mod command;
 mod fault;
@@ -37,12 +40,14 @@ fn main(rt: HostRuntime) -> ExitCode {
     ExitCode::FAILURE
 }
 
+// Does what the arguments ask for.
 fn run(rt: &HostRuntime) -> Result<(), Fault> {
     match read_arguments(rt)? {
-        Command::Input => print_report(rt, read_input(rt)?),
-        Command::File(name) => print_report(rt, read_file(rt, name)?),
+        Command::Input => print_made(rt, report(rt.alloc(), &read_input(rt)?)),
+        Command::File(name) => print_made(rt, report(rt.alloc(), &read_file(rt, name)?)),
         Command::Audit { payments, book } => {
-            print_verdict(rt, read_file(rt, payments)?, read_book(rt, book)?)
+            let payments = read_file(rt, payments)?;
+            print_made(rt, verdict(rt.alloc(), &read_book(rt, book)?, &payments))
         }
         Command::NoPayments => Err(Fault::NoPayments),
         Command::Help => print(rt, HELP),
@@ -55,13 +60,10 @@ fn run(rt: &HostRuntime) -> Result<(), Fault> {
 fn read_arguments(rt: &HostRuntime) -> Result<Command, Fault>
     ensures { FailsBy arguments result }
 {
-    match env::args(rt) {
-        Ok(words) => {
-            let mut words = words.skip(1);
-            Ok(asked_for(words.next(), words.next(), words.next(), words.next()))
-        }
-        Err(why) => Err(Fault::Arguments(why)),
-    }
+    let mut words = env::args(rt).map_err(Fault::Arguments)?;
+    // the program's own name
+    words.next();
+    Ok(asked_for(words))
 }
 
 // The book of a file, or of standard input where there is no name.
@@ -74,49 +76,32 @@ fn read_book(rt: &HostRuntime, name: Option<String>) -> Result<Vec<u8>, Fault>
     }
 }
 
+// All of standard input.
 fn read_input(rt: &HostRuntime) -> Result<Vec<u8>, Fault>
     ensures { FailsBy standard_input result }
 {
     let mut input = Vec::new(rt.alloc());
-    match rt.stdin().read_to_end(&mut input) {
-        Ok(_) => Ok(input),
-        Err(why) => Err(Fault::Input(why)),
-    }
+    rt.stdin().read_to_end(&mut input).map_err(Fault::Input)?;
+    Ok(input)
 }
 
+// All of a file; a fault has its name.
 fn read_file(rt: &HostRuntime, name: String) -> Result<Vec<u8>, Fault>
     ensures { FailsBy (file name) result }
 {
-    match fs::read(rt, name.as_str()) {
-        Ok(input) => Ok(input),
-        Err(why) => Err(Fault::File(name, why)),
-    }
+    fs::read(rt, name.as_str()).map_err(|why| Fault::File(name, why))
 }
 
-// Prints the report only once all of it is made.
-fn print_report(rt: &HostRuntime, input: Vec<u8>) -> Result<(), Fault>
+// Prints a text, once all of it is made, where there was memory for it.
+fn print_made(rt: &HostRuntime, made: Result<String, AllocError>) -> Result<(), Fault>
     ensures { IfErr result (λ e. of_text (cause_of e) ≡ true) }
 {
-    match text::report(rt.alloc(), input.as_slice()) {
-        Ok(text) => print(rt, text.as_str()),
-        Err(_) => Err(Fault::Memory),
-    }
+    print(rt, made?.as_str())
 }
 
-fn print_verdict(rt: &HostRuntime, payments: Vec<u8>, book: Vec<u8>) -> Result<(), Fault>
-    ensures { IfErr result (λ e. of_text (cause_of e) ≡ true) }
-{
-    match text::auditing::verdict(rt.alloc(), book.as_slice(), payments.as_slice()) {
-        Ok(text) => print(rt, text.as_str()),
-        Err(_) => Err(Fault::Memory),
-    }
-}
-
+// Prints a text that is there.
 fn print(rt: &HostRuntime, text: &str) -> Result<(), Fault>
     ensures { FailsBy standard_output result }
 {
-    match rt.print(text) {
-        Ok(()) => Ok(()),
-        Err(why) => Err(Fault::Output(why)),
-    }
+    rt.print(text).map_err(Fault::Output)
 }
