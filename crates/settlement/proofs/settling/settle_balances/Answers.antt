@@ -11,14 +11,14 @@ use Rattle.settlement.specs.Settle.{Best}
 pub pay_all-requires : goal.pay_all-requires
 pay_all-requires c =
     let b = c.args.balances.now in
-    let made = c.in-Ok.ensures in
-    let sets = c.as_slice.ensures.value ∙ c.in-Ok-group_people.ensures.1.groups in
+    let made = c.in_ok-payments.ensures in
+    let sets = c.deref.ensures.value ∙ c.in_ok-groups.ensures.1.groups in
     let few = at_most_sixteen b (fixed_groups (cents_of b) (people_of b)) (groups_part b) in
     record { none = made.items; room = omega (arith, few, made.capacity, ap (λ ts. length (settled_by b ts)) sets) }
 
-pub returns-in-Ok-group_people : goal.returns-in-Ok-group_people
-returns-in-Ok-group_people c =
+pub returns : goal.returns
+returns c =
     let b = c.args.balances.now in
-    let grouped = c.in-Ok-group_people.ensures in
-    let exact = c.pay_all.ensures ∙ ap (settled_by b) (c.as_slice.ensures.value ∙ grouped.1.groups) in
+    let grouped = c.in_ok-groups.ensures in
+    let exact = c.pay_all.ensures ∙ ap (settled_by b) (c.deref.ensures.value ∙ grouped.1.groups) in
     record { room = grouped.0; written = grouped.1.written; exact = exact; best = subst (Best (sides_of b)) (sym exact) (fixed_best b) }
