@@ -1,6 +1,7 @@
 -- The smallest number that passes a test.
-use Rattle.std.proofs.Common.{◌≡◌, ℕ, zero, suc, ◌<◌, ◌≤◌, Bool, true, false, Option, Some, None, MatchOption, refl, inl, inr, arith}
-use Rattle.std.proofs.lemmas.Bool.{cases_lt, lt-ltb, le-ltb}
+use Rattle.std.proofs.Common.{◌≡◌, ℕ, zero, suc, ◌<◌, ◌≤◌, Bool, true, false, Option, Some, None, MatchOption, inl, inr, arith}
+use Rattle.std.proofs.lemmas.Bool.{cases_lt}
+use Rattle.std.proofs.lemmas.Bool.Decides.{nat_tests as tells}
 use Rattle.settlement.specs.Amounts.{first_of}
 use Rattle.settlement.specs.Paying.{first}
 
@@ -31,26 +32,22 @@ pub first_of_search : (t : ℕ → Bool) (n : ℕ) (r : Option ℕ) →
 first_of_search t n None none =
     elim (cases_lt (first t n) n) [
       | inl l ↦ let z = none (first t n) (omega arith) l in let p = first_passes t n l in cc
-      | inr l ↦ let b = le-ltb (first t n) n l in rw b refl
+      | inr l ↦ grind (arith, tells)
     ]
 first_of_search t n (Some i) (_, l, here, before) =
     let below : first t n ≤ i = first_least t n i l here in
     elim (cases_lt (first t n) i) [
       | inl k ↦ let z = before (first t n) (omega arith) k in let p = first_passes t n (omega arith) in cc
-      | inr k ↦ let e : first t n ≡ i = omega arith in let b = lt-ltb i n l in rw (e, b) refl
+      | inr k ↦ let e : first t n ≡ i = omega arith in grind (arith, tells)
     ]
 
 -- what a search that found somebody tells, and one that found nobody
 pub who_is_first : (t : ℕ → Bool) (n p : ℕ) → Some p ≡ first_of n t → (first t n ≡ p) × (p < n)
 who_is_first t n p h =
     elim (cases_lt (first t n) n) [
-      | inl l ↦ let b = lt-ltb (first t n) n l in let e : first t n ≡ p = grind arith in (e, omega arith)
-      | inr l ↦ let b = le-ltb (first t n) n l in let z : ◌≡◌ {A = ℕ} 0 1 = grind arith in absurd (omega arith)
+      | inl l ↦ let e : first t n ≡ p = grind (arith, tells) in (e, omega arith)
+      | inr l ↦ grind (arith, tells)
     ]
 
 pub nobody_is : (t : ℕ → Bool) (n : ℕ) → None ≡ first_of n t → n ≤ first t n
-nobody_is t n h =
-    elim (cases_lt (first t n) n) [
-      | inl l ↦ let b = lt-ltb (first t n) n l in let z : ◌≡◌ {A = ℕ} 0 1 = grind arith in absurd (omega arith)
-      | inr l ↦ l
-    ]
+nobody_is t n h = elim (cases_lt (first t n) n) [ inl l ↦ grind (arith, tells) | inr l ↦ l ]
