@@ -33,4 +33,4 @@ module _ {b : Balances} {sets : List ℕ} {i : ℕ} {ps : List Payment} (inv : T
 
   -- after the last set all are paid
   pub round_last : length sets ≤ i → ps ≡ settled_by b sets
-  round_last l = sym (append-nil ps) ∙ ap (λ qs. ps ++ qs) (sym (settled_over b sets i l)) ∙ inv.whole
+  round_last l = sym (append-nil ps) ∙ (rw (settled_over b sets i l) at inv.whole)
