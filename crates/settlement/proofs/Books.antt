@@ -1,28 +1,23 @@
 -- Every book in order has a best settlement, and the one by the fixed groups is best.
-use Rattle.std.proofs.Common.{◌≡◌, ℕ, List, ℤ, subst}
-use mathlib.Core.Path.{fun_ext}
+use Rattle.std.proofs.Common.{◌≡◌, ℕ, ◌≤◌, List, length, ℤ, None, ap, ◌∙◌}
 use Rattle.balances.proofs.Evens.{comes_even}
 use Rattle.balances.proofs.Holds.{sides_even}
 use Rattle.balances.specs.Promise.{balances}
-use Rattle.balances.specs.Tally.{Counted, balance_of}
 use Rattle.balances.specs.View.{cents_of, people_of, sides_of}
 use Rattle.balances.specs.declared.sheet.Balances.{Balances}
-use Rattle.book.specs.Held.{Held}
 use Rattle.book.specs.Ledger.{Payment}
 use Rattle.groups.proofs.GreatestGroups.{greatest_groups}
 use Rattle.groups.proofs.PartedSets.{groups_part, groups_most}
 use Rattle.groups.specs.Fixed.{fixed_groups}
-use Rattle.groups.specs.Made.{Refused}
 use Rattle.groups.specs.Shorts.{too_short}
-use Rattle.groups.specs.Tables.{Kept}
+use Rattle.groups.specs.Tables.{Written}
 use Rattle.groups.specs.Theorems.{greatest}
-use Rattle.groups.specs.declared.ungrouped.Ungrouped.{Ungrouped}
 use Rattle.settlement.proofs.Best.{best_from_groups, sets_best}
+use Rattle.settlement.proofs.Few.{at_most_sixteen}
 use Rattle.settlement.proofs.Numbered.{groups_settle}
-use Rattle.settlement.specs.Paying.{settlement}
+use Rattle.settlement.specs.Amounts.{settled_by}
 use Rattle.settlement.specs.Promise.{Settled}
-use Rattle.settlement.specs.Settle.{Best}
-use Rattle.settlement.specs.Settled.{SettledBy, book_lines}
+use Rattle.settlement.specs.Settled.{SettledBy}
 
 pub settled : Settled
 settled n book sound =
@@ -32,20 +27,21 @@ settled n book sound =
     let s = groups_settle b (greatest b) even most.1 in
     (s.0, best_from_groups b (greatest b) even most.0 s.0 s.1 s.2 s.3)
 
--- the payments of the fixed groups
-pub fixed_best : (b : Balances) → Best (sides_of b) (settlement (people_of b) (fixed_groups (cents_of b) (people_of b)) (cents_of b))
-fixed_best b = sets_best (people_of b) (cents_of b) (fixed_groups (cents_of b) (people_of b)) (sides_even b) (groups_part b) (groups_most b)
+-- the payments of sets that are the fixed groups: they are few, and settle best
+module _ (b : Balances) (sets : List ℕ) (fixed : sets ≡ fixed_groups (cents_of b) (people_of b)) where
+  pub fixed_few : length (settled_by b sets) ≤ 16
+  fixed_few = rw fixed (at_most_sixteen b (fixed_groups (cents_of b) (people_of b)) (groups_part b))
 
--- what is settled of the balances of a book is settled of the book
-module _ (h : Held) (b : Balances) (counted : Counted h b) (old-sums sums : List ℤ) (old-counts counts : List ℕ) where
-  pub settled_book : (ps : List Payment) → SettledBy (people_of b) (cents_of b) (sides_of b) old-sums sums old-counts counts ps →
-      SettledBy h.people (balance_of (book_lines h)) (balances h.people (book_lines h)) old-sums sums old-counts counts ps
-  settled_book ps s =
-      let numbers : cents_of b ≡ balance_of (book_lines h) = fun_ext counted.each in
-      subst (λ n. SettledBy n (balance_of (book_lines h)) (balances h.people (book_lines h)) old-sums sums old-counts counts ps) counted.people
-      (subst (λ f. SettledBy (people_of b) f (balances h.people (book_lines h)) old-sums sums old-counts counts ps) numbers
-      (subst (λ a. SettledBy (people_of b) (cents_of b) a old-sums sums old-counts counts ps) counted.sides s))
-
-  pub refused_book : (e : Ungrouped) → Refused (too_short (people_of b) old-sums old-counts) e × Kept old-sums sums old-counts counts →
-      Refused (too_short h.people old-sums old-counts) e × Kept old-sums sums old-counts counts
-  refused_book e r = (subst (λ n. Refused (too_short n old-sums old-counts) e) counted.people r.0, r.1)
+  pub fixed_settle : (ps : List Payment) → ps ≡ settled_by b sets →
+      (old-sums sums : List ℤ) (old-counts counts : List ℕ) → too_short (people_of b) old-sums old-counts ≡ None →
+      Written (cents_of b) (people_of b) old-sums sums old-counts counts →
+      SettledBy (people_of b) (cents_of b) (sides_of b) old-sums sums old-counts counts ps
+  fixed_settle ps paid old-sums sums old-counts counts room written =
+      let ts = fixed_groups (cents_of b) (people_of b) in
+      let exact = paid ∙ ap (settled_by b) fixed in
+      record {
+        room = room;
+        written = written;
+        exact = exact;
+        best = rw exact (sets_best (people_of b) (cents_of b) ts (sides_even b) (groups_part b) (groups_most b));
+      }

@@ -1,6 +1,7 @@
 -- The smallest number that passes a test.
-use Rattle.std.proofs.Common.{◌≡◌, ℕ, zero, suc, ◌+◌, ◌<◌, ◌≤◌, Bool, true, false, Some, None, refl, inl, inr, add-one, arith}
-use Rattle.std.proofs.lemmas.Bool.{cases_lt, lt-ltb, le-ltb}
+use Rattle.std.proofs.Common.{◌≡◌, ℕ, zero, suc, ◌+◌, ◌<◌, ◌≤◌, Bool, true, false, Option, Some, None, MatchOption, refl, inl, inr, add-one, arith}
+use Rattle.std.proofs.lemmas.Bool.{cases_lt}
+use Rattle.std.proofs.lemmas.Bool.Decides.{nat_tests as tells}
 use Rattle.settlement.specs.Amounts.{first_of}
 use Rattle.settlement.specs.Paying.{first}
 
@@ -23,7 +24,7 @@ first_least t (suc n) i l h =
       | inr k ↦ let e : i ≡ n = omega arith in grind (arith, first_le t n)
     ]
 
--- a search's start, its step and its two ends: nothing below i passes where first t i ≡ i
+-- a search's start, its step and its end at somebody: nothing below i passes where first t i ≡ i
 pub first_start : (t : ℕ → Bool) → first t 0 ≡ 0
 unfolding first
 first_start t = refl
@@ -32,32 +33,38 @@ pub first_more : (t : ℕ → Bool) (i : ℕ) → first t i ≡ i → t i ≡ fa
 unfolding first
 first_more t i e h = rw add-one (grind arith)
 
-pub first_found : (t : ℕ → Bool) (i n : ℕ) → i < n → first t i ≡ i → t i ≡ true → first t n ≡ i
-unfolding first
-first_found t i zero l e h = absurd (omega arith)
-first_found t i (suc n) l e h =
-    elim (cases_lt i n) [
-      | inl k ↦ grind (arith, first_found t i n k e h)
-      | inr k ↦ let s : i ≡ n = omega arith in grind arith
+pub found_at : (t : ℕ → Bool) (i n : ℕ) → i < n → first t i ≡ i → t i ≡ true → Some i ≡ first_of n t
+found_at t i n l e h =
+    let below : first t n ≤ i = first_least t n i l h in
+    elim (cases_lt (first t n) i) [
+      | inl k ↦ let p = first_passes t n (omega arith) in let before = first_least t i (first t n) k p in absurd (omega arith)
+      | inr k ↦ let f : first t n ≡ i = omega arith in grind (arith, tells)
     ]
 
-pub found_at : (t : ℕ → Bool) (i n : ℕ) → i < n → first t i ≡ i → t i ≡ true → Some i ≡ first_of n t
-found_at t i n l e h = let f = first_found t i n l e h in let b = lt-ltb i n l in rw (f, b) refl
-
-pub found_nowhere : (t : ℕ → Bool) (i n : ℕ) → i ≤ n → n ≤ i → first t i ≡ i → None ≡ first_of n t
-found_nowhere t i n l m e = let s : i ≡ n = omega arith in let b = le-ltb n n (omega arith) in rw (← s, e, s, b) refl
+-- what is found where nothing before it passes, or where nothing passes
+pub first_of_search : (t : ℕ → Bool) (n : ℕ) (r : Option ℕ) →
+    MatchOption r ((k : ℕ) → 0 ≤ k → k < n → t k ≡ false)
+    (λ i. (0 ≤ i) × (i < n) × (t i ≡ true) × ((k : ℕ) → 0 ≤ k → k < i → t k ≡ false)) →
+    r ≡ first_of n t
+first_of_search t n None none =
+    elim (cases_lt (first t n) n) [
+      | inl l ↦ let z = none (first t n) (omega arith) l in let p = first_passes t n l in cc
+      | inr l ↦ grind (arith, tells)
+    ]
+first_of_search t n (Some i) (_, l, here, before) =
+    let below : first t n ≤ i = first_least t n i l here in
+    elim (cases_lt (first t n) i) [
+      | inl k ↦ let z = before (first t n) (omega arith) k in let p = first_passes t n (omega arith) in cc
+      | inr k ↦ let e : first t n ≡ i = omega arith in grind (arith, tells)
+    ]
 
 -- what a search that found somebody tells, and one that found nobody
 pub who_is_first : (t : ℕ → Bool) (n p : ℕ) → Some p ≡ first_of n t → (first t n ≡ p) × (p < n)
 who_is_first t n p h =
     elim (cases_lt (first t n) n) [
-      | inl l ↦ let b = lt-ltb (first t n) n l in let e : first t n ≡ p = grind arith in (e, omega arith)
-      | inr l ↦ let b = le-ltb (first t n) n l in let z : ◌≡◌ {A = ℕ} 0 1 = grind arith in absurd (omega arith)
+      | inl l ↦ let e : first t n ≡ p = grind (arith, tells) in (e, omega arith)
+      | inr l ↦ grind (arith, tells)
     ]
 
 pub nobody_is : (t : ℕ → Bool) (n : ℕ) → None ≡ first_of n t → n ≤ first t n
-nobody_is t n h =
-    elim (cases_lt (first t n) n) [
-      | inl l ↦ let b = lt-ltb (first t n) n l in let z : ◌≡◌ {A = ℕ} 0 1 = grind arith in absurd (omega arith)
-      | inr l ↦ l
-    ]
+nobody_is t n h = elim (cases_lt (first t n) n) [ inl l ↦ grind (arith, tells) | inr l ↦ l ]

@@ -11,7 +11,8 @@ pub mod Best
 pub mod Books
 pub mod Carried
 pub mod Steps
-pub mod Filled
+pub mod Tables
+pub mod Made
 pub mod Read
 pub mod Turns
 pub mod Rounds

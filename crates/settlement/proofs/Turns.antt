@@ -42,7 +42,7 @@ module _ {i n : ℕ} {m : ℕ → Bool} {ps : List Payment} {xs ys : List ℕ} {
     turn_again e = record { whole = rw (e, read_more, append_assoc, ← one_more) inv.whole }
 
   nothing : group_payments (n - i) n m (amount_at xs) (amount_at ys) ≡ [] → read_payments ps ≡ all
-  nothing z = sym (append-nil (read_payments ps)) ∙ ap (λ rs. read_payments ps ++ rs) (sym z) ∙ inv.whole
+  nothing z = sym (append-nil (read_payments ps)) ∙ (rw z at inv.whole)
 
   -- where nobody owes or nobody is owed nothing is left to pay
   pub turn_none : i < n → (None ≡ first_of n (has m (amount_at xs))) ⊎ (None ≡ first_of n (has m (amount_at ys))) → read_payments ps ≡ all
@@ -55,4 +55,4 @@ module _ {i n : ℕ} {m : ℕ → Bool} {ps : List Payment} {xs ys : List ℕ} {
   -- nor after as many turns as people
   pub turn_last : n ≤ i → read_payments ps ≡ all
   unfolding group_payments
-  turn_last l = let z : n - i ≡ 0 = omega arith in nothing (ap (λ k. group_payments k n m (amount_at xs) (amount_at ys)) z)
+  turn_last l = let z : n - i ≡ 0 = omega arith in nothing (rw z)

@@ -54,18 +54,10 @@ pub fn settle_balances(
         (λ e. Refused (too_short (people_of balances.now) sums.old counts.old) e
         × Kept sums.old sums.new counts.old counts.new) }
 {
-    if let Err(short) = room(balances, sums, counts) {
-        return Err(Ungrouped::Short(short));
-    }
+    room(balances, sums, counts)?;
     // Memory is reserved before the first write to a table, so that a refusal leaves both as they were.
-    let Ok(mut payments) = Vec::with_capacity(heap, MOST_PAYMENTS) else {
-        return Err(Ungrouped::Memory);
-    };
-    match group_people(heap, balances, sums, counts) {
-        Ok(groups) => {
-            pay_all(balances, groups.as_slice(), &mut payments);
-            Ok(payments)
-        }
-        Err(refusal) => Err(refusal),
-    }
+    let mut payments = Vec::with_capacity(heap, MOST_PAYMENTS)?;
+    let groups = group_people(heap, balances, sums, counts)?;
+    pay_all(balances, &groups, &mut payments);
+    Ok(payments)
 }

@@ -1,11 +1,14 @@
+-- What is settled of the balances of a book is settled of the book.
+use Rattle.std.proofs.Common.{◌≡◌}
+use mathlib.Core.Path.{fun_ext}
+use Rattle.balances.specs.Tally.{balance_of}
+use Rattle.balances.specs.View.{cents_of}
 use Rattle.book.specs.View.{held}
-use Rattle.settlement.proofs.Books.{settled_book, refused_book}
 use Rattle.settlement.proofs.settling.settle.Goals as goal
-use Rattle.std.proofs.lemmas.Result.{MatchResult-weaker}
+use Rattle.settlement.specs.Settled.{book_lines}
 
 pub returns : goal.returns
 returns c =
     let counted = c.of-balances.ensures in
-    MatchResult-weaker c.settle_balances.result c.settle_balances.ensures
-    (λ v s. settled_book (held c.args.book.now) c.of-balances.result counted _ _ _ _ _ s)
-    (λ e r. refused_book (held c.args.book.now) c.of-balances.result counted _ _ _ _ e r)
+    let numbers : cents_of c.of-balances.result ≡ balance_of (book_lines (held c.args.book.now)) = fun_ext counted.each in
+    rw (counted.sides, numbers, counted.people) at c.settle_balances.ensures

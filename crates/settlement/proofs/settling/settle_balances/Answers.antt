@@ -1,24 +1,12 @@
-use Rattle.std.proofs.Common.{length, sym, ap, ◌∙◌, subst, arith}
-use Rattle.balances.specs.View.{cents_of, people_of, sides_of}
-use Rattle.groups.proofs.PartedSets.{groups_part}
-use Rattle.groups.specs.Fixed.{fixed_groups}
-use Rattle.settlement.proofs.Books.{fixed_best}
-use Rattle.settlement.proofs.Few.{at_most_sixteen}
+use Rattle.std.proofs.Common.{◌∙◌, arith}
+use Rattle.settlement.proofs.Books.{fixed_few, fixed_settle}
 use Rattle.settlement.proofs.settling.settle_balances.Goals as goal
-use Rattle.settlement.specs.Amounts.{settled_by}
-use Rattle.settlement.specs.Settle.{Best}
 
-pub pay_all-requires : goal.pay_all-requires
-pay_all-requires c =
-    let b = c.args.balances.now in
-    let made = c.in-Ok.ensures in
-    let sets = c.as_slice.ensures.value ∙ c.in-Ok-group_people.ensures.1.groups in
-    let few = at_most_sixteen b (fixed_groups (cents_of b) (people_of b)) (groups_part b) in
-    record { none = made.items; room = omega (arith, few, made.capacity, ap (λ ts. length (settled_by b ts)) sets) }
+pub pay_all-requires-clause-room : goal.pay_all-requires-clause-room
+pay_all-requires-clause-room c =
+    omega (arith, fixed_few c.args.balances.now _ (c.deref.ensures.value ∙ c.in_ok-groups.ensures.1.groups), c.in_ok-payments.ensures.capacity)
 
-pub returns-in-Ok-group_people : goal.returns-in-Ok-group_people
-returns-in-Ok-group_people c =
-    let b = c.args.balances.now in
-    let grouped = c.in-Ok-group_people.ensures in
-    let exact = c.pay_all.ensures ∙ ap (settled_by b) (c.as_slice.ensures.value ∙ grouped.1.groups) in
-    record { room = grouped.0; written = grouped.1.written; exact = exact; best = subst (Best (sides_of b)) (sym exact) (fixed_best b) }
+pub returns : goal.returns
+returns c =
+    let g = c.in_ok-groups.ensures in
+    fixed_settle c.args.balances.now _ (c.deref.ensures.value ∙ g.1.groups) _ c.pay_all.ensures _ _ _ _ g.0 g.1.written

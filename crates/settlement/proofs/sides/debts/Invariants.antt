@@ -1,8 +1,0 @@
-use Rattle.balances.specs.Signed.{debt}
-use Rattle.balances.specs.View.{cents_of}
-use Rattle.settlement.proofs.Filled.{Filled}
-use Rattle.settlement.proofs.sides.debts.Given as goal
-
--- what each person before this one owes is there
-abbrev pub invariant-loop-person : goal.invariant-loop-person
-invariant-loop-person l = Filled 16 l.person (λ i. debt (cents_of l.balances i)) l.amounts
