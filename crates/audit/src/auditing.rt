@@ -43,17 +43,10 @@ pub fn audit_balances(
     ensures { Answers (people_of balances.now) (cents_of balances.now) (sides_of balances.now)
         sums.old sums.new counts.old counts.new (lent payments.now) result }
 {
-    if let Err(short) = room(balances, sums, counts) {
-        return Err(Unaudited::Short(short));
-    }
+    room(balances, sums, counts)?;
     // All payments are read before the first write to a table, so that a refusal leaves both as they were.
-    let tally = match add_up(balances.people(), payments) {
-        Ok(tally) => tally,
-        Err(refusal) => return Err(refusal),
-    };
-    if let Err(short) = fill_tables(balances, sums, counts) {
-        return Err(Unaudited::Short(short));
-    }
+    let tally = add_up(balances.people(), payments)?;
+    fill_tables(balances, sums, counts)?;
     let most_groups = counts[everyone(balances.people())] as usize;
     let few = payments.len() + most_groups <= open_people(balances);
     let little = tally.moved <= all_debts(balances);

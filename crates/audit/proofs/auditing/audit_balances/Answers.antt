@@ -8,11 +8,11 @@ use Rattle.audit.specs.Bytes.{lent}
 use Rattle.audit.specs.Told.{Told}
 
 pub first_left-requires : goal.first_left-requires
-first_left-requires c = net_small _ _ _ _ c.in-Ok.ensures.1
+first_left-requires c = net_small _ _ _ _ c.in_ok-tally.ensures.1
 
 pub returns : goal.returns
 returns c =
-    let told = subst (λ n. Told n (lent c.args.payments.now) (Ok c.in-Ok.tally)) c.people.ensures c.in-Ok.ensures in
+    let told = subst (λ n. Told n (lent c.args.payments.now) (Ok c.in_ok-tally.tally)) c.people.ensures c.in_ok-tally.ensures in
     let all = c.everyone.ensures ∙ ap everyone c.people-2.ensures in
-    answered c.args.balances.now c.args.payments.now c.in-Ok.tally _ _ _ _ _ c.in_default.ensures told c.in_default-fill_tables.ensures.1
+    answered c.args.balances.now c.args.payments.now c.in_ok-tally.tally _ _ _ _ _ c.in_ok-room.ensures told c.in_ok-fill_tables.ensures.1
     (cc (all, c.grade.ensures, c.first_left.ensures, c.open_people.ensures, c.all_debts.ensures))
