@@ -1,12 +1,12 @@
 -- Reading payments from their bytes, one after another.
-use Rattle.std.proofs.Common.{◌≡◌, ℕ, ◌+◌, ◌<◌, ◌≤◌, true, false, List, [], ◌∷◌, ◌++◌, length, get_or, take, drop, ℤ, Some, None, sym, refl, ap, ◌∙◌, subst, inl, inr, add-one, arith, length-take, Bor}
+use Rattle.std.proofs.Common.{◌≡◌, ℕ, ◌+◌, ◌^◌, ◌<◌, ◌≤◌, true, false, List, [], ◌∷◌, ◌++◌, length, get_or, take, drop, ℤ, Some, None, sym, refl, ap, ◌∙◌, subst, inl, inr, add-one, arith, length-take, Bor}
 use Rattle.std.proofs.lemmas.List.{drop_all, drop_more, length-map, map-append, take_all, take_more}
 use Rattle.std.proofs.lemmas.Bool.{cases_Bool}
 use Rattle.std.proofs.lemmas.Bool.Decides.{nat_tests}
 use Rattle.book.specs.Ledger.{Payment}
 use Rattle.audit.specs.Bytes.{faulty, first_faulty, lent, payment_of, payments_of, said}
 use Rattle.audit.specs.Running.{InOrder, Running, paid_in}
-use Rattle.audit.proofs.Runs.{running_push}
+use Rattle.audit.proofs.Runs.{moved_le, running_push}
 
 -- a payment that says something has no fault, and one that says nothing has one
 pub said_some : (n k : ℕ) (bs : List ℕ) (p : Payment) → said n k bs ≡ Some p → (faulty n k bs ≡ false) × (p ≡ payment_of bs)
@@ -62,6 +62,14 @@ module _ (n k : ℕ) (ps : List (Bor (List ℕ))) (d : Bor (List ℕ)) (l : k < 
   read_length : length (payments_of (lent (take k ps))) ≤ k
   unfolding payments_of
   read_length = simp length-map (omega (arith, length-take k ps))
+
+  -- and what it moves is within what 1,024 payments of the greatest amount move
+  pub moved_room : (net : List ℤ) (moved : ℕ) (p : Payment) → Running n (payments_of (lent (take k ps))) net moved →
+      said n k (get_or ps k d).now ≡ Some p → moved + p.amount ≤ 2 ^ 58
+  moved_room net moved p r e =
+      let s = said_some n k (get_or ps k d).now p e in
+      let o = no_fault n k (get_or ps k d).now s.0 in
+      rw s.1 (omega (arith, o.0, o.1.small, read_length, moved_le n (payments_of (lent (take k ps))) net moved r))
 
   pub adds : (net : List ℤ) (moved : ℕ) (p : Payment) → n ≤ 16 → Running n (payments_of (lent (take k ps))) net moved →
       said n k (get_or ps k d).now ≡ Some p → Running n (payments_of (lent (take (k + 1) ps))) (paid_in net p) (moved + p.amount)

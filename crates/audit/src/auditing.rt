@@ -1,5 +1,5 @@
 // Auditing payments from elsewhere: the one verdict that fits them.
-ghost use Rattle.std.specs.Prelude.{◌≡◌, ◌≤◌};
+ghost use Rattle.std.specs.Prelude.{◌≡◌};
 ghost use Rattle.audit.specs.Audited.{Answers};
 ghost use Rattle.audit.specs.Bytes.{lent};
 ghost use Rattle.audit.specs.Judged.{verdict_of};
@@ -11,7 +11,7 @@ ghost use Rattle.groups.specs.Sets.{everyone as everyoneOf};
 ghost use Rattle.settlement.specs.Settled.{book_lines};
 
 use crate::owing::{all_debts, first_left, open_people};
-use crate::tally::add_up;
+use crate::tally::adding::add_up;
 use crate::unaudited::Unaudited;
 use crate::verdict::Verdict;
 use balances::sheet::Balances;
@@ -45,20 +45,19 @@ pub fn audit_balances(
 {
     room(balances, sums, counts)?;
     // All payments are read before the first write to a table, so that a refusal leaves both as they were.
-    let tally = add_up(balances.people(), payments)?;
+    let tally = add_up(balances, payments)?;
     fill_tables(balances, sums, counts)?;
-    let most_groups = counts[everyone(balances.people())] as usize;
+    let most_groups = counts[everyone(balances)] as usize;
     let few = payments.len() + most_groups <= open_people(balances);
     let little = tally.moved <= all_debts(balances);
-    Ok(grade(first_left(balances, &tally.net), few, little))
+    Ok(grade(first_left(balances, &tally), few, little))
 }
 
-// The set of so many people.
-fn everyone(people: u8) -> usize
-    requires { people ≤ 16 }
-    ensures { result ≡ everyoneOf people }
+// The set of all people.
+fn everyone(balances: &Balances) -> usize
+    ensures { result ≡ everyoneOf (people_of balances.now) }
 {
-    (1 << people) - 1
+    (1 << balances.people()) - 1
 }
 
 // The verdict by the first who is not quit, and by whether the payments are few and move little.

@@ -17,18 +17,18 @@ pub loop-person-init : goal.loop-person-init
 loop-person-init c = first_start _
 
 pub overflow_add-balance : goal.overflow_add-balance
-overflow_add-balance c = let b = near_at c.args.balances.now c.loop-person.person in let n = c.requires c.loop-person.person in search rules
+overflow_add-balance c = let b = near_at c.args.balances.now c.loop-person.person in let n = c.args.tally.now.near c.loop-person.person in search rules
 
-pub returns-then-balance-net-ne0 : goal.returns-then-balance-net-ne0
-returns-then-balance-net-ne0 c =
+pub returns-then-balance-tally-ne0 : goal.returns-then-balance-tally-ne0
+returns-then-balance-tally-ne0 c =
     let near = near_at c.args.balances.now c.loop-person.person in
-    let few = c.requires c.loop-person.person in
-    let some : sum c.args.balances.now c.args.net.now c.loop-person.person ≡ pos 0 → ⊥ = search rules in
+    let few = c.args.tally.now.near c.loop-person.person in
+    let some : sum c.args.balances.now c.args.tally.now.net c.loop-person.person ≡ pos 0 → ⊥ = search rules in
     found_at _ c.loop-person.person _ (omega arith) c.loop-person.invariant (not_from_false _ (zero_no _ some))
 
 pub loop-person-preserved : goal.loop-person-preserved
 loop-person-preserved c =
     let near = near_at c.args.balances.now c.loop-person.person in
-    let few = c.requires c.loop-person.person in
-    let none : sum c.args.balances.now c.args.net.now c.loop-person.person ≡ pos 0 = search rules in
+    let few = c.args.tally.now.near c.loop-person.person in
+    let none : sum c.args.balances.now c.args.tally.now.net c.loop-person.person ≡ pos 0 = search rules in
     first_more _ c.loop-person.person c.loop-person.invariant (not_from_true _ (zero_yes _ none))

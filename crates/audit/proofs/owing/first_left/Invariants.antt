@@ -6,4 +6,4 @@ use Rattle.audit.specs.Running.{is_left}
 
 -- nobody below is left with something
 abbrev pub invariant-loop-person : goal.invariant-loop-person
-invariant-loop-person l = first (is_left (cents_of l.balances) l.net) l.person ≡ l.person
+invariant-loop-person l = first (is_left (cents_of l.balances) l.tally.net) l.person ≡ l.person
