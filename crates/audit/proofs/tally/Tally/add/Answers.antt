@@ -1,6 +1,5 @@
 -- Each line changes the table as its definition says, since nothing leaves 64 bits; and nobody's number grows by more than the amount.
 use Rattle.std.proofs.Common.{◌≡◌, ◌+◌, ◌^◌, ◌<◌, ◌≤◌, ℕ, List, slice_set, length, w64, ℤ, pos, nat_abs, ◌+ℤ◌, ◌-ℤ◌, to_z, of_z, arith, rules}
-use Rattle.std.proofs.lemmas.Int.{ints}
 use Rattle.book.specs.Ledger.{Payment}
 use Rattle.audit.specs.Running.{paid_in, raised}
 use Rattle.settlement.specs.Reading.{read_payment}

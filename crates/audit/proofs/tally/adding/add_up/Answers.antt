@@ -1,10 +1,8 @@
 -- Each payment read is one more in the tally; the first that says nothing is the first fault.
-use Rattle.std.proofs.Common.{◌≡◌, get_or, Some, sym, refl, ap, ◌∙◌, arith, rules}
-use Rattle.std.specs.Option.{option_map}
-use Rattle.audit.proofs.FromBytes.{adds, ends, goes_on, in_order, moved_room, read_all}
+use Rattle.std.proofs.Common.{sym, refl, ◌∙◌}
+use Rattle.audit.proofs.FromBytes.{adds, goes_on, moved_room}
 use Rattle.audit.proofs.tally.adding.add_up.Goals as goal
-use Rattle.audit.specs.Bytes.{payments_of, said}
-use Rattle.audit.specs.declared.unaudited.Unaudited.TheVariants.{Payment}
+use Rattle.audit.specs.Bytes.{payments_of}
 use Rattle.balances.specs.View.{people_of}
 use Rattle.settlement.specs.Reading.{read_payment}
 
