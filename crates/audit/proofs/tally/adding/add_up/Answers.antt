@@ -1,27 +1,28 @@
 -- Each payment read is one more in the tally; the first that says nothing is the first fault.
-use Rattle.std.proofs.Common.{sym, refl, ◌∙◌}
-use Rattle.audit.proofs.FromBytes.{adds, goes_on, moved_room}
+use Rattle.std.proofs.Common.{refl, rules}
+use Rattle.std.proofs.lemmas.Grind.{common_steps}
+use Rattle.std.proofs.lemmas.List.{drop_more}
+use Rattle.audit.proofs.FromBytes.{adds, moved_room}
 use Rattle.audit.proofs.tally.adding.add_up.Goals as goal
 use Rattle.audit.specs.Bytes.{payments_of}
 use Rattle.balances.specs.View.{people_of}
-use Rattle.settlement.specs.Reading.{read_payment}
 
 pub loop-at-init : goal.loop-at-init
 unfolding payments_of
-loop-at-init c = (c.none-tally.ensures _, refl)
+loop-at-init c = record { read = c.none-tally.ensures _; rest = refl }
 
 pub add-requires-clause-few : goal.add-requires-clause-few
 add-requires-clause-few c =
     let n = people_of c.args.balances.now in
-    let said = sym (rw c.people.ensures at c.in-Some.ensures) in
-    moved_room n c.loop-at.at c.args.payments.now _ c.loop-at-test.true _ _ (read_payment c.in-Some.payment) c.loop-at.invariant.0 said
+    let said = rw c.people.ensures at c.in-Some.ensures in
+    moved_room n c.loop-at.at c.args.payments.now _ c.loop-at-test.true _ _ _ c.loop-at.invariant.read said
 
 pub loop-at-preserved : goal.loop-at-preserved
 loop-at-preserved c =
-    let said = sym (rw c.people.ensures at c.in-Some.ensures) in
+    let said = rw c.people.ensures at c.in-Some.ensures in
     let n = people_of c.args.balances.now in
-    let k = c.loop-at.at in
-    let ps = c.args.payments.now in
-    let more = adds n k ps _ c.loop-at-test.true c.loop-at.tally.net c.loop-at.tally.moved _ c.args.balances.now.crew c.loop-at.invariant.0 said in
-    let on = goes_on n k ps _ c.loop-at-test.true _ said in
-    (rw (c.add.ensures.paid, c.add.ensures.summed) more, sym on ∙ c.loop-at.invariant.1)
+    record {
+      read = rw (c.add.ensures.paid, c.add.ensures.summed)
+          (adds n c.loop-at.at c.args.payments.now _ c.loop-at-test.true _ _ _ c.args.balances.now.crew c.loop-at.invariant.read said);
+      rest = search (rules, common_steps, drop_more);
+    }

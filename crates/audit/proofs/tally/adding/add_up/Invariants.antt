@@ -6,6 +6,7 @@ use Rattle.audit.specs.Running.{Tallied}
 use Rattle.balances.specs.View.{people_of}
 
 abbrev pub invariant-loop-at : goal.invariant-loop-at
-invariant-loop-at l =
-    Tallied (people_of l.balances) (payments_of (lent (take l.at l.payments))) l.tally ×
-    (first_faulty (people_of l.balances) l.at (lent (drop l.at l.payments)) ≡ first_faulty (people_of l.balances) 0 (lent l.payments))
+invariant-loop-at l = record {
+  read : Tallied (people_of l.balances) (payments_of (lent (take l.at l.payments))) l.tally;
+  rest : first_faulty (people_of l.balances) l.at (lent (drop l.at l.payments)) ≡ first_faulty (people_of l.balances) 0 (lent l.payments);
+}
