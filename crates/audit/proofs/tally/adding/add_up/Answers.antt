@@ -23,6 +23,6 @@ loop-at-preserved c =
     let n = people_of c.args.balances.now in
     record {
       read = rw (c.add.ensures.paid, c.add.ensures.summed)
-          (adds n c.loop-at.at c.args.payments.now _ c.loop-at-test.true _ _ _ c.args.balances.now.crew c.loop-at.invariant.read said);
+          (adds n c.loop-at.at c.args.payments.now _ c.loop-at-test.true _ _ _ c.loop-at.invariant.read said c.args.balances.now.crew);
       rest = search (rules, common_steps, drop_more);
     }
