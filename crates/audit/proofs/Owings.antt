@@ -30,11 +30,11 @@ count_sum : (p : ℤ → Bool) (xs : List ℤ) → count_by p xs ≡ sum_by (λ 
 count_sum p [] = refl
 count_sum p (x ∷ xs) = grind (arith, count_sum p xs)
 
--- are 64 bits of a number other than 0
+-- are a number's 64 bits other than 0
 abbrev pub some_bits : ℤ → Bool
 some_bits z = not (eqb (of_z w64 z) 0)
 
--- they are where it is owed or owes
+-- they are where a person with this number owes or is owed
 some_open : (z : ℤ) → nat_abs z ≤ 2 ^ 48 → some_bits z ≡ ltb 0 (debt z + credit z)
 some_open (pos zero) l = refl
 some_open (pos (suc n)) l = grind arith
@@ -44,18 +44,19 @@ some_open (negsuc n) l = let bits = ne_eqb (of_z w64 (negsuc n)) 0 (omega arith)
 pub debt_near : (b : Balances) (i : ℕ) → (sides_of b).owes i ≤ 2 ^ 48
 debt_near b i = omega (arith, ints, near_at b i, debt_credit (cents_of b i), one_of (cents_of b i))
 
-module _ (b : Balances) (there : length (numbers_of b) ≡ people_of b) where
-  sum_numbers : (f : ℤ → ℕ) → sum_by f (numbers_of b) ≡ span (λ i. f (cents_of b i)) (people_of b)
-  sum_numbers f = sum_span f b.cents (people_of b) (omega (arith, length-take (people_of b) b.cents))
+-- the numbers of the people who are there, as the code reads them
+module _ (b : Balances) (xs : List ℤ) (all : xs ≡ numbers_of b) (each : length xs ≡ people_of b) where
+  sum_numbers : (f : ℤ → ℕ) → sum_by f xs ≡ span (λ i. f (cents_of b i)) (people_of b)
+  sum_numbers f = rw all (sum_span f b.cents (people_of b) (omega (arith, ap length all, length-take (people_of b) b.cents)))
 
-  pub sum_debts : sum_by debt (numbers_of b) ≡ span (sides_of b).owes (people_of b)
+  pub sum_debts : sum_by debt xs ≡ span (sides_of b).owes (people_of b)
   sum_debts = sum_numbers debt
 
-  pub debts_fit : sum_by debt (numbers_of b) < 2 ^ 64
+  pub debts_fit : sum_by debt xs < 2 ^ 64
   debts_fit = omega (arith, sum_debts, span_most (sides_of b).owes (2 ^ 48) (people_of b) (debt_near b), b.crew)
 
-  pub count_open : count_by some_bits (numbers_of b) ≡ still_open (sides_of b)
+  pub count_open : count_by some_bits xs ≡ still_open (sides_of b)
   unfolding still_open
   count_open =
-      count_sum some_bits (numbers_of b) ∙ sum_numbers (λ z. pick (some_bits z) 1 0)
+      count_sum some_bits xs ∙ sum_numbers (λ z. pick (some_bits z) 1 0)
       ∙ span_same _ _ (people_of b) (λ i l. ap (λ t. pick t 1 0) (some_open (cents_of b i) (near_at b i)))

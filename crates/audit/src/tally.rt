@@ -4,8 +4,8 @@ ghost use Rattle.balances.specs.Signed.{at_person};
 
 pub(crate) mod adding;
 
-// For each person what it pays less what it gets, which is no more than all the money that is moved; and that is at most
-// what the most payments of the greatest amount move.
+// For each person what it pays less what it gets, either way no more than all the money that is moved. That is at most
+// what 1,024 payments of 2^48 cents move.
 #[derive(Clone, Copy)]
 pub(crate) struct Tally {
     pub(crate) net: [i64; 16],

@@ -16,7 +16,7 @@ use settlement::payment::Payment;
 pub(crate) fn add_up(balances: &Balances, payments: &[&[u8]]) -> Result<Tally, Unaudited>
     ensures { Told (people_of balances.now) (lent payments.now) result }
 {
-    let mut tally = Tally::none();
+    let mut tally = Tally::new();
     for (at, bytes) in payments.iter().enumerate() {
         let Some(payment) = decode(balances.people(), at, bytes) else {
             return Err(Unaudited::Payment { at });
@@ -27,8 +27,8 @@ pub(crate) fn add_up(balances: &Balances, payments: &[&[u8]]) -> Result<Tally, U
 }
 
 impl Tally {
-    // Of no payments.
-    fn none() -> Tally
+    // The tally of no payments.
+    fn new() -> Tally
         ensures { (n : ℕ) → Tallied n [] result }
     {
         Tally {

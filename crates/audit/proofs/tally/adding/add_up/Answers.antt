@@ -9,7 +9,7 @@ use Rattle.balances.specs.View.{people_of}
 
 pub loop-at-init : goal.loop-at-init
 unfolding payments_of
-loop-at-init c = record { read = c.none-tally.ensures _; rest = refl }
+loop-at-init c = record { read = c.new-tally.ensures _; rest = refl }
 
 pub add-requires-clause-few : goal.add-requires-clause-few
 add-requires-clause-few c =
