@@ -53,7 +53,7 @@ pub fn audit_balances(
     Ok(grade(first_left(balances, &tally), few, little))
 }
 
-// The set of all people.
+// The set of all people: the last entry that is filled in the tables.
 fn everyone(balances: &Balances) -> usize
     ensures { result ≡ everyoneOf (people_of balances.now) }
 {
