@@ -1,5 +1,5 @@
 -- The verdict that is worked out from a tally fits the payments.
-use Rattle.std.proofs.Common.{◌≡◌, ℕ, zero, suc, ◌+◌, ◌<◌, Bool, not, leb, List, length, get_or, ℤ, ◌+ℤ◌, None, Ok, Result, refl, ap, ◌∙◌, subst, arith, Bor}
+use Rattle.std.proofs.Common.{◌≡◌, ℕ, zero, suc, ◌+◌, ◌<◌, Bool, not, leb, List, length, get_or, ℤ, ◌+ℤ◌, None, Ok, Result, refl, ap, ◌∙◌, arith, Bor}
 use mathlib.Core.Path.{fun_ext}
 use Rattle.std.proofs.ByRecursion.{All-weaker}
 use Rattle.std.proofs.lemmas.Int.{ints}
@@ -100,6 +100,4 @@ pub answers_book : (h : Held) (b : Balances) → Counted h b →
     Answers h.people (balance_of (book_lines h)) (balances h.people (book_lines h)) old-sums sums old-counts counts bss r
 answers_book h b counted old-sums sums old-counts counts bss r a =
     let numbers : cents_of b ≡ balance_of (book_lines h) = fun_ext counted.each in
-    subst (λ n. Answers n (balance_of (book_lines h)) (balances h.people (book_lines h)) old-sums sums old-counts counts bss r) counted.people
-    (subst (λ f. Answers (people_of b) f (balances h.people (book_lines h)) old-sums sums old-counts counts bss r) numbers
-    (subst (λ s. Answers (people_of b) (cents_of b) s old-sums sums old-counts counts bss r) counted.sides a))
+    rw (← counted.sides, ← numbers, ← counted.people) a

@@ -1,6 +1,6 @@
 -- Payments in order, written as bytes, are read back as they were and have no fault.
 use Rattle.std.proofs.Common.{◌≡◌, ℕ, suc, ◌+◌, ◌^◌, ◌<◌, ◌≤◌, false, List, [], ◌∷◌, length, None, refl, ap, ap₂, arith}
-use Rattle.std.proofs.lemmas.Bool.{le-ltb, lt-leb, ne_eqb}
+use Rattle.std.proofs.lemmas.Bool.Decides.{nat_tests}
 use Rattle.std.specs.List.{AllByRecursion}
 use Rattle.book.specs.Ledger.{Payment}
 use Rattle.audit.specs.Bytes.{eight_bytes, faulty, first_faulty, payment_of, payments_of}
@@ -15,15 +15,7 @@ pub payment_back : (p : Payment) → p.amount ≤ 2 ^ 48 → payment_of (encoded
 payment_back p l = let e = amount_back p l in ap (λ a. record { from = p.from; to = p.to; amount = a }) e
 
 pub not_faulty : (n k : ℕ) (p : Payment) → k < 1024 → InOrder n p → faulty n k (encoded p) ≡ false
-not_faulty n k p l h =
-    let late = lt-leb 1024 k l in
-    let from = lt-leb n p.from h.from_there in
-    let to = lt-leb n p.to h.to_there in
-    let other = ne_eqb p.from p.to h.another in
-    let e = amount_back p h.small in
-    let some = ne_eqb p.amount 0 (omega (arith, h.some)) in
-    let small = le-ltb (2 ^ 48) p.amount h.small in
-    rw (late, from, to, other, e, some, small) refl
+not_faulty n k p l h = let e = amount_back p h.small in grind (arith, nat_tests)
 
 -- all of them
 pub none_faulty : (n k : ℕ) (ps : List Payment) → k + length ps ≤ 1024 → AllByRecursion (InOrder n) ps → first_faulty n k (all_encoded ps) ≡ None

@@ -39,8 +39,7 @@ book_sent : (h : Held) (b : Balances) → Counted h b →
     Sent h.people (settlement h.people (fixed_groups (balance_of (book_lines h)) h.people) (balance_of (book_lines h)))
 book_sent h b counted =
     let numbers : cents_of b ≡ balance_of (book_lines h) = fun_ext counted.each in
-    subst (λ n. Sent n (settlement n (fixed_groups (balance_of (book_lines h)) n) (balance_of (book_lines h)))) counted.people
-    (subst (λ f. Sent (people_of b) (settlement (people_of b) (fixed_groups f (people_of b)) f)) numbers (crew_sent b))
+    rw (← numbers, ← counted.people) (crew_sent b)
 
 -- where both tables have room such payments are not refused
 not_refused : (n : ℕ) (sums : List ℤ) (counts : List ℕ) (ps : List Payment) → too_short n sums counts ≡ None → Sent n ps →
@@ -54,5 +53,4 @@ settled_audited h b counted ps _ _ _ _ settled (Ok v) _ _ _ _ room a =
 settled_audited h b counted ps _ _ _ _ settled (Err e) sums _ counts _ room a =
     let sent = subst (Sent h.people) (sym settled.exact) (book_sent h b counted) in
     let none = not_refused h.people sums counts ps room sent in
-    let some = a.first in
-    let z : ◌≡◌ {A = ℕ} 0 1 = cc in absurd (omega arith)
+    let some = a.first in absurd cc

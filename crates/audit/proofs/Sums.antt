@@ -6,17 +6,6 @@ use Rattle.book.specs.Ledger.{Payment}
 use Rattle.settlement.specs.Settle.{out, into, money}
 use Rattle.settlement.proofs.Joined.{out_append, into_append, money_append}
 
--- nobody pays or gets more than what is moved
-pub out_le : (ps : List Payment) (i : ℕ) → out ps i ≤ money ps
-unfolding out money
-out_le [] i = omega arith
-out_le (p ∷ ps) i = grind (arith, out_le ps i)
-
-pub into_le : (ps : List Payment) (i : ℕ) → into ps i ≤ money ps
-unfolding into money
-into_le [] i = omega arith
-into_le (p ∷ ps) i = grind (arith, into_le ps i)
-
 -- payments of at most m each
 pub money_le : (m : ℕ) (ps : List Payment) → AllByRecursion (λ p. p.amount ≤ m) ps → money ps ≤ length ps * m
 unfolding money

@@ -130,19 +130,25 @@ names b ps LeastOnly f = f.0.settles
 names b ps SettlesOnly f = f.0
 names b ps (NotQuit i) f = f
 
+yes : {P : Type 0} → P → Decides true P
+yes p = ((λ t. p), (λ x. refl))
+
+no : {P : Type 0} → (P → ⊥) → Decides false P
+no p = ((λ t. absurd (false≢true t)), (λ x. absurd (p x)))
+
 pub says_fewest_right : SaysFewest
-says_fewest_right b ps FewestAndLeast f = ((λ t. f.0), (λ x. refl))
-says_fewest_right b ps FewestOnly f = ((λ t. f.0), (λ x. refl))
-says_fewest_right b ps LeastOnly f = ((λ t. absurd (false≢true t)), (λ x. absurd (f.1 x)))
-says_fewest_right b ps SettlesOnly f = ((λ t. absurd (false≢true t)), (λ x. absurd (f.1 x)))
-says_fewest_right b ps (NotQuit i) f = ((λ t. absurd (false≢true t)), (λ x. absurd (never_unquit b ps i x.settles f)))
+says_fewest_right b ps FewestAndLeast f = yes f.0
+says_fewest_right b ps FewestOnly f = yes f.0
+says_fewest_right b ps LeastOnly f = no f.1
+says_fewest_right b ps SettlesOnly f = no f.1
+says_fewest_right b ps (NotQuit i) f = no (λ x. never_unquit b ps i x.settles f)
 
 pub says_least_right : SaysLeast
-says_least_right b ps FewestAndLeast f = ((λ t. f.1), (λ x. refl))
-says_least_right b ps FewestOnly f = ((λ t. absurd (false≢true t)), (λ x. absurd (f.1 x)))
-says_least_right b ps LeastOnly f = ((λ t. f.0), (λ x. refl))
-says_least_right b ps SettlesOnly f = ((λ t. absurd (false≢true t)), (λ x. absurd (f.2 x)))
-says_least_right b ps (NotQuit i) f = ((λ t. absurd (false≢true t)), (λ x. absurd (never_unquit b ps i x.settles f)))
+says_least_right b ps FewestAndLeast f = yes f.1
+says_least_right b ps FewestOnly f = no f.1
+says_least_right b ps LeastOnly f = yes f.0
+says_least_right b ps SettlesOnly f = no f.2
+says_least_right b ps (NotQuit i) f = no (λ x. never_unquit b ps i x.settles f)
 
 -- a verdict is whom it names and what it says
 told : (v : Verdict) → verdict_of (named v) (says_fewest v) (says_least v) ≡ v

@@ -1,8 +1,8 @@
 -- A payment from elsewhere: from, to, and eight bytes of amount, low byte first. What is wrong with it, and what it says.
 use Rattle.std.specs.Borrow.{Bor}
-use Rattle.std.specs.Prelude.{ℕ, suc, ◌+◌, ◌*◌, ◌^◌, Bool, false, not, ◌||◌, leb, List, [], ◌∷◌, map, length, Some, None, Option, ◌==◌, nat_eq, nat_le, nat_lt}
+use Rattle.std.specs.Prelude.{ℕ, suc, ◌+◌, ◌*◌, ◌^◌, Bool, false, not, ◌||◌, leb, List, [], ◌∷◌, map, length, Some, None, Option, ◌==◌, nat_eq, nat_lt}
 use Rattle.shares.specs.Bill.{pick}
-use Rattle.book.specs.Checks.{unless}
+use Rattle.book.specs.Checks.{stranger, unless}
 use Rattle.book.specs.Layout.{byte}
 use Rattle.book.specs.Ledger.{Payment}
 
@@ -22,10 +22,7 @@ lent ps = map (λ p. p.now) ps
 unfoldable pub payments_of : List (List ℕ) → List Payment
 payments_of bss = map payment_of bss
 
--- a person that is not among n, and an amount of 0 or above 2^48
-abbrev pub stranger : ℕ → List ℕ → ℕ → Bool
-stranger n bs i = nat_le n (byte bs i)
-
+-- an amount of 0 or above 2^48
 abbrev pub out_of_range : List ℕ → ℕ → Bool
 out_of_range bs i = eight_bytes bs i == 0 || nat_lt (2 ^ 48) (eight_bytes bs i)
 
@@ -58,9 +55,6 @@ first_faulty n k [] = None
 first_faulty n k (bs ∷ bss) = pick (faulty n k bs) (Some k) (first_faulty n (suc k) bss)
 
 -- what is read off the bytes where they are in order
-abbrev pub person_at : ℕ → List ℕ → ℕ → Option ℕ
-person_at n bs i = unless (stranger n bs i) (byte bs i)
-
 abbrev pub amount_at : List ℕ → ℕ → Option ℕ
 amount_at bs i = unless (out_of_range bs i) (eight_bytes bs i)
 

@@ -1,5 +1,5 @@
 // Auditing payments from elsewhere: the one verdict that fits them.
-ghost use Rattle.std.specs.Prelude.{◌≡◌, ◌≤◌};
+ghost use Rattle.std.specs.Prelude.{◌≡◌};
 ghost use Rattle.audit.specs.Audited.{Answers};
 ghost use Rattle.audit.specs.Bytes.{lent};
 ghost use Rattle.audit.specs.Judged.{verdict_of};
@@ -11,7 +11,7 @@ ghost use Rattle.groups.specs.Sets.{everyone as everyoneOf};
 ghost use Rattle.settlement.specs.Settled.{book_lines};
 
 use crate::owing::{all_debts, first_left, open_people};
-use crate::tally::add_up;
+use crate::tally::adding::add_up;
 use crate::unaudited::Unaudited;
 use crate::verdict::Verdict;
 use balances::sheet::Balances;
@@ -43,29 +43,21 @@ pub fn audit_balances(
     ensures { Answers (people_of balances.now) (cents_of balances.now) (sides_of balances.now)
         sums.old sums.new counts.old counts.new (lent payments.now) result }
 {
-    if let Err(short) = room(balances, sums, counts) {
-        return Err(Unaudited::Short(short));
-    }
+    room(balances, sums, counts)?;
     // All payments are read before the first write to a table, so that a refusal leaves both as they were.
-    let tally = match add_up(balances.people(), payments) {
-        Ok(tally) => tally,
-        Err(refusal) => return Err(refusal),
-    };
-    if let Err(short) = fill_tables(balances, sums, counts) {
-        return Err(Unaudited::Short(short));
-    }
-    let most_groups = counts[everyone(balances.people())] as usize;
+    let tally = add_up(balances, payments)?;
+    fill_tables(balances, sums, counts)?;
+    let most_groups = counts[everyone(balances)] as usize;
     let few = payments.len() + most_groups <= open_people(balances);
     let little = tally.moved <= all_debts(balances);
-    Ok(grade(first_left(balances, &tally.net), few, little))
+    Ok(grade(first_left(balances, &tally), few, little))
 }
 
-// The set of so many people.
-fn everyone(people: u8) -> usize
-    requires { people ≤ 16 }
-    ensures { result ≡ everyoneOf people }
+// The set of all people: the last entry that is filled in the tables.
+fn everyone(balances: &Balances) -> usize
+    ensures { result ≡ everyoneOf (people_of balances.now) }
 {
-    (1 << people) - 1
+    (1 << balances.people()) - 1
 }
 
 // The verdict by the first who is not quit, and by whether the payments are few and move little.

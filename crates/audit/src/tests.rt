@@ -1,5 +1,6 @@
 // Verdicts on lists of payments for small crews, worked out by hand, and payments that are turned away.
 use crate::auditing::audit;
+use crate::verdict::Verdict;
 use book::ledger::Book;
 use std::process::Abort;
 use std::test::Fail;
@@ -12,11 +13,9 @@ fn pay(from: u8, to: u8, amount: u64) -> [u8; 10] {
 
 // A book of payments that were made: who paid is owed so much, and who got it owes it.
 fn book_of(rt: &(impl Abort + AllocGlobal), people: u8, lines: &[[u8; 7]]) -> Result<Book, Fail> {
-    let Ok(mut book) = Book::new(rt.alloc(), people, 8) else {
-        return Err(Fail::new("no book"));
-    };
+    let mut book = Book::new(rt.alloc(), people, 8)?;
     for line in lines {
-        assert!(rt; book.add(line).is_ok());
+        book.add(line)?;
     }
     Ok(book)
 }
@@ -28,9 +27,7 @@ fn words(
     payments: &[&[u8]],
     expected: &str,
 ) -> Result<(), Fail> {
-    let Ok(verdict) = audit(book, payments, &mut [0; 64], &mut [0; 64]) else {
-        return Err(Fail::new("refused"));
-    };
+    let verdict = audit(book, payments, &mut [0; 64], &mut [0; 64])?;
     assert_eq!(rt; format!(in rt.alloc(); "{verdict}")?.as_str(), expected);
     Ok(())
 }
@@ -86,12 +83,14 @@ fn six_people(rt: HostRuntime) -> Result<(), Fail> {
     words(&rt, &book, &[&pay(0, 2, 5), &pay(3, 4, 3)], "1 is not quit")
 }
 
-// The number and place of the refusal with these tables; 0 and 0 for a verdict.
-fn refused(book: &Book, payments: &[&[u8]], sums: &mut [i64], counts: &mut [u8]) -> (u8, usize) {
-    match audit(book, payments, sums, counts) {
-        Ok(_) => (0, 0),
-        Err(refusal) => (refusal.number(), refusal.place()),
-    }
+// The verdict with these tables, or the number and place of the refusal.
+fn told(
+    book: &Book,
+    payments: &[&[u8]],
+    sums: &mut [i64],
+    counts: &mut [u8],
+) -> Result<Verdict, (u8, usize)> {
+    audit(book, payments, sums, counts).map_err(|refusal| (refusal.number(), refusal.place()))
 }
 
 const MOST: u64 = 1 << 48;
@@ -113,8 +112,8 @@ fn faults(rt: HostRuntime) -> Result<(), Fail> {
         (&pay(0, 1, MOST + 1), 1),
     ];
     for (payment, place) in table {
-        let told = refused(&book, &[&good, payment, &[]], &mut [0; 64], &mut [0; 64]);
-        assert_eq!(rt; told, (12, place));
+        let answer = told(&book, &[&good, payment, &[]], &mut [0; 64], &mut [0; 64]);
+        assert_eq!(rt; answer, Err((12, place)));
     }
     Ok(())
 }
@@ -125,8 +124,8 @@ fn as_many_as_there_may_be(rt: HostRuntime) -> Result<(), Fail> {
     let paid = pay(0, 1, MOST);
     let payments: [&[u8]; 1025] = [&paid; 1025];
     words(&rt, &book, &payments[0..1024], "0 is not quit")?;
-    let told = refused(&book, &payments, &mut [0; 4], &mut [0; 4]);
-    assert_eq!(rt; told, (12, 1024));
+    let answer = told(&book, &payments, &mut [0; 4], &mut [0; 4]);
+    assert_eq!(rt; answer, Err((12, 1024)));
     Ok(())
 }
 
@@ -134,11 +133,11 @@ fn as_many_as_there_may_be(rt: HostRuntime) -> Result<(), Fail> {
 fn short_tables(rt: HostRuntime) -> Result<(), Fail> {
     let book = book_of(&rt, 2, &[])?;
     let payments: [&[u8]; 1] = [&[]];
-    let told = [
-        refused(&book, &payments, &mut [0; 3], &mut [0; 3]),
-        refused(&book, &payments, &mut [0; 4], &mut [0; 3]),
-        refused(&book, &payments, &mut [0; 4], &mut [0; 4]),
+    let answers = [
+        told(&book, &payments, &mut [0; 3], &mut [0; 3]),
+        told(&book, &payments, &mut [0; 4], &mut [0; 3]),
+        told(&book, &payments, &mut [0; 4], &mut [0; 4]),
     ];
-    assert_eq!(rt; told, [(11, 1), (11, 2), (12, 0)]);
+    assert_eq!(rt; answers, [Err((11, 1)), Err((11, 2)), Err((12, 0))]);
     Ok(())
 }

@@ -1,6 +1,7 @@
 // Why payments were not audited. Each case has a number and a place, by the definition `unaudited_code`.
 ghost use Rattle.std.specs.Prelude.{◌≡◌};
 ghost use Rattle.audit.specs.Refused.{unaudited_code};
+ghost use Rattle.audit.specs.declared.unaudited.Unaudited.TheVariants as variant;
 
 use groups::short::Short;
 
@@ -31,5 +32,14 @@ impl Unaudited {
             Unaudited::Short(short) => short.place(),
             Unaudited::Payment { at } => at,
         }
+    }
+}
+
+// A table that is too short is told as that table.
+impl From<Short> for Unaudited {
+    ghost from_gives = { λ table e. e ≡ variant.Short table };
+
+    fn from(table: Short) -> Unaudited {
+        Unaudited::Short(table)
     }
 }
