@@ -1,5 +1,5 @@
 -- The smallest number that passes a test.
-use Rattle.std.proofs.Common.{◌≡◌, ℕ, zero, suc, ◌+◌, ◌<◌, ◌≤◌, Bool, true, false, Option, Some, None, MatchOption, refl, inl, inr, add-one, arith}
+use Rattle.std.proofs.Common.{◌≡◌, ℕ, zero, suc, ◌+◌, ◌<◌, ◌≤◌, Bool, true, false, Option, Some, None, MatchOption, inl, inr, arith}
 use Rattle.std.proofs.lemmas.Bool.{cases_lt}
 use Rattle.std.proofs.lemmas.Bool.Decides.{nat_tests as tells}
 use Rattle.settlement.specs.Amounts.{first_of}
@@ -22,23 +22,6 @@ first_least t (suc n) i l h =
     elim (cases_lt i n) [
       | inl k ↦ grind (arith, first_least t n i k h)
       | inr k ↦ let e : i ≡ n = omega arith in grind (arith, first_le t n)
-    ]
-
--- a search's start, its step and its end at somebody: nothing below i passes where first t i ≡ i
-pub first_start : (t : ℕ → Bool) → first t 0 ≡ 0
-unfolding first
-first_start t = refl
-
-pub first_more : (t : ℕ → Bool) (i : ℕ) → first t i ≡ i → t i ≡ false → first t (i + 1) ≡ i + 1
-unfolding first
-first_more t i e h = rw add-one (grind arith)
-
-pub found_at : (t : ℕ → Bool) (i n : ℕ) → i < n → first t i ≡ i → t i ≡ true → Some i ≡ first_of n t
-found_at t i n l e h =
-    let below : first t n ≤ i = first_least t n i l h in
-    elim (cases_lt (first t n) i) [
-      | inl k ↦ let p = first_passes t n (omega arith) in let before = first_least t i (first t n) k p in absurd (omega arith)
-      | inr k ↦ let f : first t n ≡ i = omega arith in grind (arith, tells)
     ]
 
 -- what is found where nothing before it passes, or where nothing passes
