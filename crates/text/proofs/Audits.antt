@@ -1,8 +1,8 @@
 -- Laws of auditing: the bytes of payments, one after another, the refusals where both tables are long enough, and what is found of an input.
-use Rattle.std.proofs.Common.{◌≡◌, ℕ, ◌≤◌, Bool, true, false, List, [], ◌∷◌, ◌++◌, length, drop, ℤ, IfErr, Some, None, Ok, Err, Option, Result, sym, refl, ap, ◌∙◌, subst, append_assoc, arith, Bor}
+use Rattle.std.proofs.Common.{◌≡◌, ℕ, ◌≤◌, Bool, true, false, List, length, drop, ℤ, IfErr, Some, None, Ok, Err, Option, Result, sym, refl, ap, ◌∙◌, subst, arith}
 use Rattle.audit.proofs.Verdicts.{only_one}
 use Rattle.audit.specs.Audited.{Audited, TurnedAway}
-use Rattle.audit.specs.Bytes.{first_faulty, lent, payments_of}
+use Rattle.audit.specs.Bytes.{first_faulty, payments_of}
 use Rattle.audit.specs.Refused.{either_first}
 use Rattle.audit.specs.declared.unaudited.Unaudited.{Unaudited}
 use Rattle.audit.specs.declared.unaudited.Unaudited.TheVariants.{Payment, Short}
@@ -16,27 +16,16 @@ use Rattle.groups.specs.Shorts.{too_short}
 use Rattle.groups.specs.declared.short.Short as table
 use Rattle.groups.specs.declared.ungrouped.Ungrouped.TheVariants as ungrouped
 use Rattle.settlement.specs.Settled.{book_lines}
-use Rattle.std.proofs.lemmas.List.{append-nil, map-append}
 use Rattle.std.specs.Option.{option_map}
 use Rattle.text.proofs.Payments.{tables_suffice}
-use Rattle.text.proofs.Pieces.{pieces_more, pieces_none}
 use Rattle.text.proofs.Taken.{answered_lines, book_people}
-use Rattle.text.specs.Auditing.{Found, FoundBy, JudgedAs, OneText, outcome_said, payment_bytes, payments_in}
-use Rattle.text.specs.Pieces.{piece, pieces}
+use Rattle.text.specs.Auditing.{Found, FoundBy, JudgedAs, OneText, outcome_said, payments_in}
+use Rattle.text.specs.Pieces.{pieces}
 use Rattle.text.specs.Report.{answered_in, empty, people_in, pieces_in}
 use Rattle.text.specs.Run.{book_after}
 use Rattle.text.specs.Texts.{as_line}
 use Rattle.text.specs.declared.outcome.Outcome.{Outcome}
 use Rattle.text.specs.declared.outcome.Outcome.TheVariants.{NoCrew, Unsound, Judged}
-
--- one payment more
-pub cut_more : (xs : List (Bor (List ℕ))) (x : Bor (List ℕ)) (n : ℕ) (left rest : List ℕ) → rest ≡ n ∷ left → x.now ≡ payment_bytes (piece n left) →
-    lent (xs ++ x ∷ []) ++ payments_in (drop n left) ≡ lent xs ++ payments_in rest
-cut_more xs x n left rest is e = rw (is, pieces_more, map-append, e) (append_assoc (lent xs) _ _)
-
--- nothing is left
-pub cut_end : (bss : List (List ℕ)) → bss ++ payments_in [] ≡ bss
-cut_end bss = rw pieces_none (append-nil bss)
 
 -- a refusal by whether a table is too short and by the first payment that is not in order
 none_faulty : (o : Option table.Short) (p : Option ℕ) → either_first (option_map Short o) (option_map Payment p) ≡ None → p ≡ None

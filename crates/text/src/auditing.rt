@@ -5,9 +5,10 @@ ghost use Rattle.book.specs.Answers.{crew_size};
 ghost use Rattle.book.specs.View.{held};
 ghost use Rattle.settlement.specs.Settled.{book_lines};
 ghost use Rattle.text.specs.Auditing.{Found, JudgedAs, JudgedText, OneText, payment_bytes, payments_in};
-ghost use Rattle.text.specs.Pieces.{piece};
+ghost use Rattle.text.specs.Pieces.{read_piece};
 ghost use Rattle.text.specs.Report.{people_in};
 
+use crate::cutting::{Piece, Pieces};
 use crate::lines::add_lines;
 use crate::outcome::Outcome;
 use crate::paying::SETS;
@@ -73,24 +74,15 @@ fn judge(heap: Global, book: &Book, payments: &[&[u8]]) -> Result<Outcome, Alloc
 fn cut_payments(heap: Global, payments: &[u8]) -> Result<Vec<&[u8]>, AllocError>
     ensures { IfOk result (λ v. lent v.items ≡ payments_in payments.now) }
 {
-    let mut cut = Vec::new(heap);
-    let mut rest = payments;
-    while let Some((length, left)) = rest.split_first() {
-        let length = *length as usize;
-        if let Err(_) = cut.push(bytes_of(length, left)) {
-            return Err(AllocError);
-        }
-        rest = &left[length.min(left.len())..];
-    }
-    Ok(cut)
+    Pieces(payments).map(bytes_of).collect(heap)
 }
 
-// The bytes of a payment of that length; there are none where fewer are left.
-fn bytes_of(length: usize, left: &[u8]) -> &[u8]
-    ensures { result.now ≡ payment_bytes (piece length left.now) }
+// The bytes of a payment; one that is cut has none.
+fn bytes_of(payment: Piece<'_>) -> &[u8]
+    ensures { result.now ≡ payment_bytes (read_piece payment.entry) }
 {
-    if length > left.len() {
-        return &left[0..0];
+    match payment {
+        Piece::Whole(bytes) => bytes,
+        Piece::Cut(_) => &[],
     }
-    &left[0..length]
 }

@@ -22,6 +22,7 @@ use writing::write_line;
 
 pub mod answer;
 pub mod auditing;
+mod cutting;
 pub mod lines;
 pub mod outcome;
 pub mod owing;
