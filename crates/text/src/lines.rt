@@ -9,6 +9,7 @@ use crate::answer::Answer;
 use crate::cutting::{Piece, Pieces};
 use crate::writing::write_line;
 use book::ledger::Book;
+use book::refusal::Refusal;
 use std::alloc::AllocError;
 
 // Reads every line into the book and writes the answer to each; each line stands after a byte of its length.
@@ -17,7 +18,7 @@ pub fn read_lines(book: &mut Book, lines: &[u8], text: &mut String) -> Result<()
         Read lines.now (held book.old) (held book.new) (string_bytes text.old) (string_bytes text.new)) }
 {
     for piece in Pieces(lines) {
-        write_line(text, answer_line(book, piece))?;
+        write_line(text, Answer(answer_line(book, piece)))?;
     }
     Ok(())
 }
@@ -32,15 +33,12 @@ pub(crate) fn add_lines(book: &mut Book, lines: &[u8])
 }
 
 // Adds a line to the book and answers it; one that is cut is refused.
-fn answer_line(book: &mut Book, piece: Piece) -> Answer
+fn answer_line(book: &mut Book, piece: Piece) -> Result<usize, Refusal>
     ensures answered { reply_of result ≡ reply (held book.old) (read_piece piece.entry) }
     ensures grown { held book.new ≡ after (held book.old) (read_piece piece.entry) }
 {
     match piece {
-        Piece::Whole(line) => match book.add(line) {
-            Ok(number) => Answer::Taken(number),
-            Err(refusal) => Answer::Refused(refusal),
-        },
-        Piece::Cut(left) => Answer::Refused(book.refuse_cut(left)),
+        Piece::Whole(line) => book.add(line),
+        Piece::Cut(left) => Err(book.refuse_cut(left)),
     }
 }
