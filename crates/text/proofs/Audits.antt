@@ -1,23 +1,17 @@
 -- Laws of auditing: the bytes of payments, one after another, the refusals where both tables are long enough, and what is found of an input.
-use Rattle.std.proofs.Common.{◌≡◌, ℕ, ◌≤◌, Bool, true, false, List, length, drop, ℤ, IfErr, Some, None, Ok, Err, Option, Result, sym, refl, ap, ◌∙◌, subst, arith}
+use Rattle.std.proofs.Common.{◌≡◌, ℕ, Bool, true, false, List, drop, IfErr, Some, None, Ok, Err, Option, Result, sym, ap, ◌∙◌, subst, arith}
 use Rattle.audit.proofs.Verdicts.{only_one}
-use Rattle.audit.specs.Audited.{Audited, TurnedAway}
-use Rattle.audit.specs.Bytes.{first_faulty, payments_of}
+use Rattle.audit.specs.Bytes.{payments_of}
 use Rattle.audit.specs.Refused.{either_first}
-use Rattle.audit.specs.declared.unaudited.Unaudited.{Unaudited}
 use Rattle.audit.specs.declared.unaudited.Unaudited.TheVariants.{Payment, Short}
-use Rattle.audit.specs.declared.verdict.Verdict.{Verdict}
 use Rattle.balances.specs.Promise.{balances}
 use Rattle.book.specs.Answers.{crew_size}
 use Rattle.book.specs.Held.{Held}
 use Rattle.book.specs.Ledger.{Line}
 use Rattle.book.specs.Reading.{lines}
-use Rattle.groups.specs.Shorts.{too_short}
 use Rattle.groups.specs.declared.short.Short as table
-use Rattle.groups.specs.declared.ungrouped.Ungrouped.TheVariants as ungrouped
 use Rattle.settlement.specs.Settled.{book_lines}
 use Rattle.std.specs.Option.{option_map}
-use Rattle.text.proofs.Payments.{tables_suffice}
 use Rattle.text.proofs.Taken.{answered_lines, book_people}
 use Rattle.text.specs.Auditing.{Found, FoundBy, JudgedAs, OneText, outcome_said, payments_in}
 use Rattle.text.specs.Pieces.{pieces}
@@ -27,36 +21,10 @@ use Rattle.text.specs.Texts.{as_line}
 use Rattle.text.specs.declared.outcome.Outcome.{Outcome}
 use Rattle.text.specs.declared.outcome.Outcome.TheVariants.{NoCrew, Unsound, Judged}
 
--- a refusal by whether a table is too short and by the first payment that is not in order
-none_faulty : (o : Option table.Short) (p : Option ℕ) → either_first (option_map Short o) (option_map Payment p) ≡ None → p ≡ None
-none_faulty None None e = refl
-none_faulty None (Some at) e = grind arith
-none_faulty (Some s) p e = grind arith
-
-first_unsound : (o : Option table.Short) (p : Option ℕ) (at : ℕ) → either_first (option_map Short o) (option_map Payment p) ≡ Some (Payment at) → p ≡ Some at
-first_unsound None None at e = grind arith
-first_unsound None (Some k) at e = grind arith
-first_unsound (Some s) p at e = grind arith
-
-short_table : (o : Option table.Short) (p : Option ℕ) (s : table.Short) → either_first (option_map Short o) (option_map Payment p) ≡ Some (Short s) → o ≡ Some s
-short_table None None s e = grind arith
-short_table None (Some k) s e = grind arith
-short_table (Some t) p s e = grind arith
-
--- what the auditor's answer says for n people, by the tables before and after
-module _ (n : ℕ) (old-sums sums : List ℤ) (old-counts counts : List ℕ) (bss : List (List ℕ)) where
-  pub audited_judged : (f : ℕ → ℤ) (ls : List Line) (v : Verdict) → Audited n f (balances n ls) old-sums sums old-counts counts bss v → JudgedAs n ls bss (Judged v)
-  audited_judged f ls v a = (none_faulty (too_short n old-sums old-counts) (first_faulty n 0 bss) a.taken, a.fits)
-
-  pub away_unsound : (e : Unaudited) (at : ℕ) → TurnedAway n old-sums sums old-counts counts bss e → e ≡ Payment at → first_faulty n 0 bss ≡ Some at
-  away_unsound e at t is = first_unsound (too_short n old-sums old-counts) (first_faulty n 0 bss) at (t.first ∙ ap Some is)
-
-  -- tables with an entry for each set of sixteen people are never too short
-  pub never_short : (e : Unaudited) (s : table.Short) → n ≤ 16 → length old-sums ≡ 65536 → length old-counts ≡ 65536 →
-      TurnedAway n old-sums sums old-counts counts bss e → e ≡ Short s → ⊥
-  never_short e s few a b t is =
-      let short = short_table (too_short n old-sums old-counts) (first_faulty n 0 bss) s (t.first ∙ ap Some is) in
-      tables_suffice n old-sums old-counts (ungrouped.Short s) s few a b short refl
+-- where no table is too short, a refusal names a payment
+pub none_short : (p : Option ℕ) (s : table.Short) → either_first (option_map Short None) (option_map Payment p) ≡ Some (Short s) → ⊥
+none_short None s e = grind arith
+none_short (Some at) s e = grind arith
 
 -- the book of an input, and the payments for it
 pub judged_found : (bs ls ps : List ℕ) (n : ℕ) (h h' : Held) (bss : List (List ℕ)) (o : Outcome) → n ≡ people_in bs → ls ≡ drop 1 bs → crew_size n ≡ true →

@@ -1,13 +1,9 @@
 -- Laws of the lines of payments, and the payments that settle a book.
-use Rattle.std.proofs.Common.{◌≡◌, ℕ, ◌+◌, ◌^◌, ◌<◌, ◌≤◌, List, [], ◌++◌, length, get_or, drop, ℤ, Some, subst, append_assoc, arith, pow_mono}
+use Rattle.std.proofs.Common.{◌≡◌, ℕ, ◌+◌, ◌^◌, ◌<◌, ◌≤◌, List, [], ◌++◌, length, get_or, drop, ℤ, None, subst, append_assoc, arith, pow_mono}
 use Rattle.balances.specs.Promise.{balances}
 use Rattle.balances.specs.Tally.{balance_of}
 use Rattle.book.specs.Ledger as ledger
-use Rattle.groups.specs.Made.{Refused}
 use Rattle.groups.specs.Shorts.{too_short}
-use Rattle.groups.specs.declared.short.Short as table
-use Rattle.groups.specs.declared.ungrouped.Ungrouped.{Ungrouped}
-use Rattle.groups.specs.declared.ungrouped.Ungrouped.TheVariants.{Short}
 use Rattle.settlement.specs.Reading.{read_payment, read_payments}
 use Rattle.settlement.specs.Settle.{Best}
 use Rattle.settlement.specs.Settled.{SettledBy}
@@ -43,9 +39,5 @@ unfolding payments
 settled_is n ls old-sums sums old-counts counts ps s = record { exact = s.exact; best = subst (Best (balances n ls)) s.exact s.best }
 
 -- tables with an entry for each set of sixteen people are never too short
-pub tables_suffice : (n : ℕ) (sums : List ℤ) (counts : List ℕ) (e : Ungrouped) (s : table.Short) → n ≤ 16 → length sums ≡ 65536 → length counts ≡ 65536 →
-    Refused (too_short n sums counts) e → e ≡ Short s → ⊥
-tables_suffice n sums counts e s few a b refused is =
-    let sets : 2 ^ n ≤ 2 ^ 16 = pow_mono few in
-    let short : too_short n sums counts ≡ Some s = subst (Refused (too_short n sums counts)) is refused in
-    grind (arith, nat_tests)
+pub never_short : (n : ℕ) (sums : List ℤ) (counts : List ℕ) → n ≤ 16 → length sums ≡ 65536 → length counts ≡ 65536 → too_short n sums counts ≡ None
+never_short n sums counts few a b = let sets : 2 ^ n ≤ 2 ^ 16 = pow_mono few in grind (arith, nat_tests)

@@ -11,7 +11,7 @@ ghost use Rattle.text.specs.Report.{people_in};
 use crate::cutting::{Piece, Pieces};
 use crate::lines::add_lines;
 use crate::outcome::Outcome;
-use crate::paying::SETS;
+use crate::tables::Tables;
 use crate::writing::write_line;
 use crate::{ROOM, people_and_lines};
 use audit::auditing::audit;
@@ -58,15 +58,15 @@ fn judge(heap: Global, book: &Book, payments: &[&[u8]]) -> Result<Outcome, Alloc
     ensures { IfOk result (λ o.
         JudgedAs (held book.now).people (book_lines (held book.now)) (lent payments.now) o) }
 {
-    let mut sums = vec![in heap; 0; SETS]?;
-    let mut counts = vec![in heap; 0; SETS]?;
-    match audit(book, payments, sums.as_mut_slice(), counts.as_mut_slice()) {
+    let Tables {
+        mut sums,
+        mut counts,
+    } = Tables::new(heap)?;
+    match audit(book, payments, &mut sums, &mut counts) {
         Ok(verdict) => Ok(Outcome::Judged(verdict)),
-        Err(refusal) => match refusal {
-            Unaudited::Payment { at } => Ok(Outcome::Unsound { at }),
-            // both tables have an entry for each set
-            Unaudited::Short(_) => unreachable(),
-        },
+        Err(Unaudited::Payment { at }) => Ok(Outcome::Unsound { at }),
+        // both tables have an entry for each set
+        Err(Unaudited::Short(_)) => unreachable(),
     }
 }
 

@@ -28,6 +28,7 @@ pub mod outcome;
 pub mod owing;
 pub mod paying;
 pub mod side;
+mod tables;
 #[cfg(test)]
 mod tests;
 mod writing;
