@@ -1,5 +1,5 @@
 -- Laws of auditing: the bytes of payments, one after another, the refusals where both tables are long enough, and what is found of an input.
-use Rattle.std.proofs.Common.{◌≡◌, ℕ, Bool, true, false, List, drop, IfErr, Some, None, Ok, Err, Option, Result, sym, ap, ◌∙◌, subst, arith}
+use Rattle.std.proofs.Common.{◌≡◌, ℕ, Bool, true, false, List, drop, Some, None, Option, sym, ap, ◌∙◌, subst, arith}
 use Rattle.audit.proofs.Verdicts.{only_one}
 use Rattle.audit.specs.Bytes.{payments_of}
 use Rattle.audit.specs.Refused.{either_first}
@@ -43,11 +43,6 @@ judged_found bs ls ps n h h' bss o people rest crew begins ends cut j =
     let by_lines : JudgedAs (people_in bs) (answered_in bs) (payments_in ps) o =
     subst (λ a. JudgedAs (people_in bs) a (payments_in ps) o) (answered_lines start (pieces_in bs)) by-people in
     subst (λ t. FoundBy t (people_in bs) (answered_in bs) (payments_in ps) o) (sym there) by_lines
-
--- a call that fails only where a fact holds
-pub only_where : {A B F : Type 0} (r : Result A B) → F → IfErr r (λ _. F)
-only_where (Ok x) f = tt
-only_where (Err e) f = f
 
 -- no two outcomes
 one_judged : (n : ℕ) (ls : List Line) (bss : List (List ℕ)) (o p : Outcome) → JudgedAs n ls bss o → JudgedAs n ls bss p → o ≡ p

@@ -13,11 +13,10 @@ use crate::lines::add_lines;
 use crate::outcome::Outcome;
 use crate::tables::Tables;
 use crate::writing::write_line;
-use crate::{ROOM, people_and_lines};
+use crate::{open_book, people_and_lines};
 use audit::auditing::audit;
 use audit::unaudited::Unaudited;
 use book::ledger::Book;
-use book::refusal::Refusal;
 use std::alloc::{AllocError, Global};
 
 // What is found of the payments for the book of an input, as one line of text. The error is want of memory.
@@ -35,22 +34,19 @@ pub fn one_text()
     ensures { OneText }
 {}
 
-// Reads the book and audits the payments for it; where a book is refused for anything but the number of people, memory is wanting.
+// Reads the book and audits the payments for it, where so many people have a book.
 // Memory is never wanting for a number of people that is refused.
 fn outcome_of(heap: Global, input: &[u8], payments: &[u8]) -> Result<Outcome, AllocError>
     ensures outcome { IfOk result (λ o. Found input.now payments.now o) }
     ensures crew { OnErr result (crew_size (people_in input.now) ≡ true) }
 {
     let (people, lines) = people_and_lines(input);
-    match Book::new(heap, people, ROOM) {
-        Ok(mut book) => {
-            add_lines(&mut book, lines);
-            let cut = cut_payments(heap, payments)?;
-            judge(heap, &book, cut.as_slice())
-        }
-        Err(Refusal::CrewSize) => Ok(Outcome::NoCrew),
-        Err(_) => Err(AllocError),
-    }
+    let Some(mut book) = open_book(heap, people)? else {
+        return Ok(Outcome::NoCrew);
+    };
+    add_lines(&mut book, lines);
+    let cut = cut_payments(heap, payments)?;
+    judge(heap, &book, &cut)
 }
 
 // Audits payments for a book.
