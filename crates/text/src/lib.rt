@@ -57,8 +57,7 @@ fn report_lines(
         Told (held book.old) (pieces lines.now) (string_bytes text.old) (string_bytes text.new)) }
 {
     read_lines(book, lines, text)?;
-    close_book(heap, book, text)?;
-    Ok(())
+    close_book(heap, book, text)
 }
 
 // Writes what is said of a book after the answers to its lines: the balances, and the payments that settle them.
@@ -69,8 +68,7 @@ fn close_book(heap: Global, book: &Book, text: &mut String) -> Result<(), AllocE
 {
     write_balances(&Balances::of(book), text)?;
     let payments = payments_of(heap, book)?;
-    write_payments(payments.as_slice(), text)?;
-    Ok(())
+    write_payments(&payments, text)
 }
 
 // The number of people, which is 0 where there is no byte at all, and the bytes of the lines after it.
