@@ -76,9 +76,9 @@ pub(crate) fn people_and_lines(input: &[u8]) -> (u8, &[u8])
     ensures people { result.0 ≡ people_in input.now }
     ensures lines { result.1.now ≡ drop 1 input.now }
 {
-    match input.split_first() {
-        Some((people, lines)) => (*people, lines),
-        None => (0, input),
+    match input {
+        [people, lines @ ..] => (*people, lines),
+        [] => (0, input),
     }
 }
 
