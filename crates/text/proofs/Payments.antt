@@ -1,5 +1,5 @@
 -- Laws of the lines of payments, and the payments that settle a book.
-use Rattle.std.proofs.Common.{◌≡◌, ℕ, ◌^◌, ◌≤◌, List, length, ℤ, None, subst, arith, pow_mono}
+use Rattle.std.proofs.Common.{◌≡◌, ℕ, ◌^◌, ◌≤◌, List, length, vec_len, ℤ, None, ◌∙◌, subst, arith, pow_mono}
 use Rattle.balances.specs.Promise.{balances}
 use Rattle.balances.specs.Tally.{balance_of}
 use Rattle.book.specs.Ledger as ledger
@@ -8,6 +8,7 @@ use Rattle.settlement.specs.Settle.{Best}
 use Rattle.settlement.specs.Settled.{SettledBy}
 use Rattle.std.proofs.lemmas.Bool.Decides.{nat_tests}
 use Rattle.text.specs.Payments.{Settled, payments}
+use Rattle.text.specs.declared.tables.Tables.{Tables}
 
 -- what `settle` gives is the payments by the definition here
 pub settled_is : (n : ℕ) (ls : List ledger.Line) (old-sums sums : List ℤ) (old-counts counts : List ℕ) (ps : List ledger.Payment) →
@@ -15,6 +16,11 @@ pub settled_is : (n : ℕ) (ls : List ledger.Line) (old-sums sums : List ℤ) (o
 unfolding payments
 settled_is n ls old-sums sums old-counts counts ps s = record { exact = s.exact; best = subst (Best (balances n ls)) s.exact s.best }
 
--- tables with an entry for each set of sixteen people are never too short
-pub never_short : (n : ℕ) (sums : List ℤ) (counts : List ℕ) → n ≤ 16 → length sums ≡ 65536 → length counts ≡ 65536 → too_short n sums counts ≡ None
-never_short n sums counts few a b = let sets : 2 ^ n ≤ 2 ^ 16 = pow_mono few in grind (arith, nat_tests)
+-- the tables of all sets are never too short
+pub never_short : (t : Tables) (n : ℕ) (sums : List ℤ) (counts : List ℕ) → n ≤ 16 → length sums ≡ vec_len t.sums → length counts ≡ vec_len t.counts →
+    too_short n sums counts ≡ None
+never_short t n sums counts few a b =
+    let all-sums = a ∙ t.all_sums in
+    let all-counts = b ∙ t.all_counts in
+    let sets : 2 ^ n ≤ 2 ^ 16 = pow_mono few in
+    grind (arith, nat_tests)
