@@ -12,7 +12,6 @@ use crate::cutting::{Piece, Pieces};
 use crate::lines::add_lines;
 use crate::outcome::Outcome;
 use crate::tables::Tables;
-use crate::writing::write_line;
 use crate::{open_book, people_and_lines};
 use audit::auditing::audit;
 use audit::unaudited::Unaudited;
@@ -23,10 +22,8 @@ use std::alloc::{AllocError, Global};
 pub fn verdict(heap: Global, input: &[u8], payments: &[u8]) -> Result<String, AllocError>
     ensures { IfOk result (λ t. JudgedText input.now payments.now (string_bytes t)) }
 {
-    let mut text = String::new(heap);
     let outcome = outcome_of(heap, input, payments)?;
-    write_line(&mut text, outcome)?;
-    Ok(text)
+    format!(in heap; "{outcome}\n")
 }
 
 // No second text fits.
