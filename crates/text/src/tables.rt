@@ -1,5 +1,5 @@
 // The tables that settling and auditing fill.
-ghost use Rattle.std.specs.Prelude.{◌≡◌, IfOk, pos, replicate, vec_len};
+ghost use Rattle.std.specs.Prelude.{◌≡◌, All, IfOk, pos, vec_len};
 
 use std::alloc::{AllocError, Global};
 
@@ -18,8 +18,7 @@ pub(crate) struct Tables {
 impl Tables {
     // Tables of zeros; the error is want of memory.
     pub(crate) fn new(heap: Global) -> Result<Tables, AllocError>
-        ensures { IfOk result (λ t.
-            (t.sums.items ≡ replicate SETS (pos 0)) × (t.counts.items ≡ replicate SETS 0)) }
+        ensures { IfOk result (λ t. All (λ n. n ≡ pos 0) t.sums.items × All (λ n. n ≡ 0) t.counts.items) }
     {
         let sums = vec![in heap; 0; SETS]?;
         let counts = vec![in heap; 0; SETS]?;
