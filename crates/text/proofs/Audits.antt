@@ -1,105 +1,44 @@
--- Laws of auditing: the bytes of payments, one after another, the refusals where both tables are long enough, and what is found of an input.
-use Rattle.std.proofs.Common.{◌≡◌, ℕ, ◌≤◌, Bool, true, false, List, [], ◌∷◌, ◌++◌, length, drop, ℤ, IfErr, Some, None, Ok, Err, Option, Result, sym, refl, ap, ◌∙◌, subst, append_assoc, arith, Bor}
+-- Laws of auditing: a refusal where both tables are long enough, what is found of an input, and that one text fits.
+use Rattle.std.proofs.Common.{◌≡◌, ℕ, Bool, true, false, List, drop, Some, None, Option, sym, ap, ◌∙◌}
 use Rattle.audit.proofs.Verdicts.{only_one}
-use Rattle.audit.specs.Audited.{Audited, TurnedAway}
-use Rattle.audit.specs.Bytes.{first_faulty, lent, payments_of}
+use Rattle.audit.specs.Bytes.{payments_of}
 use Rattle.audit.specs.Refused.{either_first}
-use Rattle.audit.specs.declared.unaudited.Unaudited.{Unaudited}
 use Rattle.audit.specs.declared.unaudited.Unaudited.TheVariants.{Payment, Short}
-use Rattle.audit.specs.declared.verdict.Verdict.{Verdict}
 use Rattle.balances.specs.Promise.{balances}
 use Rattle.book.specs.Answers.{crew_size}
 use Rattle.book.specs.Held.{Held}
 use Rattle.book.specs.Ledger.{Line}
-use Rattle.book.specs.Reading.{lines}
-use Rattle.groups.specs.Shorts.{too_short}
 use Rattle.groups.specs.declared.short.Short as table
-use Rattle.groups.specs.declared.ungrouped.Ungrouped.TheVariants as ungrouped
 use Rattle.settlement.specs.Settled.{book_lines}
-use Rattle.std.proofs.lemmas.List.{append-nil, map-append}
 use Rattle.std.specs.Option.{option_map}
-use Rattle.text.proofs.Payments.{tables_suffice}
-use Rattle.text.proofs.Pieces.{pieces_more, pieces_none}
-use Rattle.text.proofs.Taken.{answered_lines, book_people}
-use Rattle.text.specs.Auditing.{Found, FoundBy, JudgedAs, OneText, outcome_said, payment_bytes, payments_in}
-use Rattle.text.specs.Pieces.{piece, pieces}
-use Rattle.text.specs.Report.{answered_in, empty, people_in, pieces_in}
+use Rattle.text.proofs.Taken.{book_people, ended_lines}
+use Rattle.text.specs.Auditing.{Found, FoundBy, JudgedAs, OneText, payments_in}
+use Rattle.text.specs.Pieces.{pieces}
+use Rattle.text.specs.Report.{empty, people_in}
 use Rattle.text.specs.Run.{book_after}
-use Rattle.text.specs.Texts.{as_line}
 use Rattle.text.specs.declared.outcome.Outcome.{Outcome}
 use Rattle.text.specs.declared.outcome.Outcome.TheVariants.{NoCrew, Unsound, Judged}
 
--- one payment more
-pub cut_more : (xs : List (Bor (List ℕ))) (x : Bor (List ℕ)) (n : ℕ) (left rest : List ℕ) → rest ≡ n ∷ left → x.now ≡ payment_bytes (piece n left) →
-    lent (xs ++ x ∷ []) ++ payments_in (drop n left) ≡ lent xs ++ payments_in rest
-cut_more xs x n left rest is e = rw (is, pieces_more, map-append, e) (append_assoc (lent xs) _ _)
-
--- nothing is left
-pub cut_end : (bss : List (List ℕ)) → bss ++ payments_in [] ≡ bss
-cut_end bss = rw pieces_none (append-nil bss)
-
--- a refusal by whether a table is too short and by the first payment that is not in order
-none_faulty : (o : Option table.Short) (p : Option ℕ) → either_first (option_map Short o) (option_map Payment p) ≡ None → p ≡ None
-none_faulty None None e = refl
-none_faulty None (Some at) e = grind arith
-none_faulty (Some s) p e = grind arith
-
-first_unsound : (o : Option table.Short) (p : Option ℕ) (at : ℕ) → either_first (option_map Short o) (option_map Payment p) ≡ Some (Payment at) → p ≡ Some at
-first_unsound None None at e = grind arith
-first_unsound None (Some k) at e = grind arith
-first_unsound (Some s) p at e = grind arith
-
-short_table : (o : Option table.Short) (p : Option ℕ) (s : table.Short) → either_first (option_map Short o) (option_map Payment p) ≡ Some (Short s) → o ≡ Some s
-short_table None None s e = grind arith
-short_table None (Some k) s e = grind arith
-short_table (Some t) p s e = grind arith
-
--- what the auditor's answer says for n people, by the tables before and after
-module _ (n : ℕ) (old-sums sums : List ℤ) (old-counts counts : List ℕ) (bss : List (List ℕ)) where
-  pub audited_judged : (f : ℕ → ℤ) (ls : List Line) (v : Verdict) → Audited n f (balances n ls) old-sums sums old-counts counts bss v → JudgedAs n ls bss (Judged v)
-  audited_judged f ls v a = (none_faulty (too_short n old-sums old-counts) (first_faulty n 0 bss) a.taken, a.fits)
-
-  pub away_unsound : (e : Unaudited) (at : ℕ) → TurnedAway n old-sums sums old-counts counts bss e → e ≡ Payment at → first_faulty n 0 bss ≡ Some at
-  away_unsound e at t is = first_unsound (too_short n old-sums old-counts) (first_faulty n 0 bss) at (t.first ∙ ap Some is)
-
-  -- tables with an entry for each set of sixteen people are never too short
-  pub never_short : (e : Unaudited) (s : table.Short) → n ≤ 16 → length old-sums ≡ 65536 → length old-counts ≡ 65536 →
-      TurnedAway n old-sums sums old-counts counts bss e → e ≡ Short s → ⊥
-  never_short e s few a b t is =
-      let short = short_table (too_short n old-sums old-counts) (first_faulty n 0 bss) s (t.first ∙ ap Some is) in
-      tables_suffice n old-sums old-counts (ungrouped.Short s) s few a b short refl
+-- where no table is too short, a refusal names a payment
+pub none_short : (p : Option ℕ) (s : table.Short) → either_first (option_map Short None) (option_map Payment p) ≡ Some (Short s) → ⊥
+none_short None s e = cc
+none_short (Some at) s e = cc
 
 -- the book of an input, and the payments for it
 pub judged_found : (bs ls ps : List ℕ) (n : ℕ) (h h' : Held) (bss : List (List ℕ)) (o : Outcome) → n ≡ people_in bs → ls ≡ drop 1 bs → crew_size n ≡ true →
     h ≡ empty n → h' ≡ book_after h (pieces ls) → bss ≡ payments_in ps → JudgedAs h'.people (book_lines h') bss o → Found bs ps o
-unfolding lines
 judged_found bs ls ps n h h' bss o people rest crew begins ends cut j =
-    let start : Held = empty (people_in bs) in
-    let end : Held = book_after start (pieces_in bs) in
-    let there : crew_size (people_in bs) ≡ true = ap crew_size (sym people) ∙ crew in
-    let from : h ≡ start = begins ∙ ap empty people in
-    let is : h' ≡ end = ends ∙ ap (λ a. book_after a (pieces ls)) from ∙ ap (λ a. book_after start (pieces a)) rest in
-    let by_end : JudgedAs end.people (book_lines end) (payments_in ps) o =
-    subst (λ a. JudgedAs end.people (book_lines end) a o) cut (subst (λ a. JudgedAs a.people (book_lines a) bss o) is j) in
-    let by-people : JudgedAs (people_in bs) (book_lines end) (payments_in ps) o =
-    subst (λ k. JudgedAs k (book_lines end) (payments_in ps) o) (book_people start (pieces_in bs)) by_end in
-    let by_lines : JudgedAs (people_in bs) (answered_in bs) (payments_in ps) o =
-    subst (λ a. JudgedAs (people_in bs) a (payments_in ps) o) (answered_lines start (pieces_in bs)) by-people in
-    subst (λ t. FoundBy t (people_in bs) (answered_in bs) (payments_in ps) o) (sym there) by_lines
-
--- a call that fails only where a fact holds
-pub only_where : {A B F : Type 0} (r : Result A B) → F → IfErr r (λ _. F)
-only_where (Ok x) f = tt
-only_where (Err e) f = f
+    let there = rw people at crew in
+    rw there (rw (ends, begins, people, rest, cut, ended_lines, book_people) at j)
 
 -- no two outcomes
 one_judged : (n : ℕ) (ls : List Line) (bss : List (List ℕ)) (o p : Outcome) → JudgedAs n ls bss o → JudgedAs n ls bss p → o ≡ p
 one_judged n ls bss NoCrew p j k = absurd j
 one_judged n ls bss (Unsound at) NoCrew j k = absurd k
-one_judged n ls bss (Unsound at) (Unsound at') j k = let e = sym j ∙ k in grind arith
-one_judged n ls bss (Unsound at) (Judged w) j k = absurd (let e = sym j ∙ k.0 in grind arith)
+one_judged n ls bss (Unsound at) (Unsound at') j k = cc
+one_judged n ls bss (Unsound at) (Judged w) j k = cc
 one_judged n ls bss (Judged v) NoCrew j k = absurd k
-one_judged n ls bss (Judged v) (Unsound at) j k = absurd (let e = sym j.0 ∙ k in grind arith)
+one_judged n ls bss (Judged v) (Unsound at) j k = cc
 one_judged n ls bss (Judged v) (Judged w) j k = ap Judged (only_one (balances n ls) (payments_of bss) v w j.1 k.1)
 
 one_found : (t : Bool) (n : ℕ) (ls : List Line) (bss : List (List ℕ)) (o p : Outcome) → FoundBy t n ls bss o → FoundBy t n ls bss p → o ≡ p
@@ -109,4 +48,4 @@ one_found false n ls bss o p j k = j ∙ sym k
 pub one_text : OneText
 one_text bs ps text text' j k =
     let same : j.outcome ≡ k.outcome = one_found _ _ _ _ _ _ j.found k.found in
-    j.exact ∙ ap (λ o. as_line (outcome_said o)) same ∙ sym k.exact
+    cc

@@ -2,6 +2,4 @@ pub mod Audits
 pub mod Payments
 pub mod Pieces
 pub mod Reports
-pub mod Runs
-pub mod Sides
 pub mod Taken

@@ -1,5 +1,7 @@
 -- Laws of the cutting: a larger bound changes nothing, and one line after another.
-use Rattle.std.proofs.Common.{◌≡◌, ℕ, zero, suc, ◌≤◌, List, [], ◌∷◌, length, drop, refl, ap, arith, length-drop}
+use Rattle.std.proofs.Common.{◌≡◌, ℕ, zero, suc, ◌-◌, ◌≤◌, min, List, [], ◌∷◌, length, take, drop, refl, inl, inr, ap, arith, length-drop}
+use Rattle.std.proofs.lemmas.Bool.{cases_lt}
+use Rattle.std.proofs.lemmas.List.{drop_all, take_rest}
 use Rattle.text.specs.Pieces.{piece, pieces, pieces_within}
 
 -- two bounds that suffice
@@ -26,3 +28,16 @@ pieces_none = refl
 pub pieces_more : (n : ℕ) (bs : List ℕ) → pieces (n ∷ bs) ≡ piece n bs ∷ pieces (drop n bs)
 unfolding pieces
 pieces_more n bs = ap (λ ps. piece n bs ∷ ps) (within_enough (length bs) (drop n bs) (omega (arith, length-drop n bs)))
+
+-- what is left after a line of n bytes: nothing where the line is cut
+pub past_line : (n k : ℕ) (bs : List ℕ) → k ≡ min n (length bs) → take (length bs - k) (drop k bs) ≡ drop n bs
+past_line n k bs e =
+    elim (cases_lt n (length bs)) [
+      | inl h ↦ let at : k ≡ n = omega arith in rw (take_rest, at)
+      | inr h ↦ let at : k ≡ length bs = omega arith in rw (take_rest, drop_all n bs h, at) (drop_all (length bs) bs (omega arith))
+    ]
+
+-- cutting off the first line
+pub first_cut : (n k : ℕ) (left rest : List ℕ) → rest ≡ n ∷ left → k ≡ min n (length left) →
+    pieces rest ≡ piece n left ∷ pieces (take (length left - k) (drop k left))
+first_cut n k left rest is e = rw (is, past_line n k left e) (pieces_more n left)

@@ -1,8 +1,7 @@
 -- The lines that a book holds after a run are those that were answered with a number.
-use Rattle.std.proofs.Common.{◌≡◌, ℕ, leb, List, [], ◌∷◌, ◌++◌, length, Some, None, Option, sym, refl, ap, ◌∙◌, append_assoc}
+use Rattle.std.proofs.Common.{◌≡◌, ℕ, leb, List, [], ◌∷◌, ◌++◌, length, Some, None, Option, sym, refl, ◌∙◌, append_assoc}
 use Rattle.book.specs.Answers.{entry_said, with_said}
 use Rattle.book.specs.Held.{Held}
-use Rattle.book.specs.Ledger.{Line}
 use Rattle.book.specs.Reading.{lines}
 use Rattle.book.specs.Layout.{kind_of}
 use Rattle.book.specs.Rows.{at_place, first_row, no_kind, rows, rows_of_cut, told}
@@ -10,9 +9,10 @@ use Rattle.book.specs.declared.line.Entry.{Entry}
 use Rattle.settlement.specs.Settled.{book_lines}
 use Rattle.std.proofs.lemmas.List.{append-nil, map-append}
 use Rattle.text.specs.Pieces.{Piece, cut, whole}
+use Rattle.text.specs.Report.{empty}
 use Rattle.text.specs.Run.{after, answered, answered_by, book_after, by_row, line_said, replies, reply, with_line}
 
--- a line more, or none
+-- a whole line by whether a row applies, and by the entry that it says
 with_said_lines : (h : Held) (e : Option Entry) → book_lines (with_said h e) ≡ book_lines h ++ line_said h.people e
 unfolding lines
 with_said_lines h None = sym (append-nil (book_lines h))
@@ -22,7 +22,6 @@ with_said_people : (h : Held) (e : Option Entry) → (with_said h e).people ≡ 
 with_said_people h None = refl
 with_said_people h (Some e) = refl
 
--- a whole line by whether a row applies
 whole_lines : (h : Held) (bs : List ℕ) (number : ℕ) (row : Option (ℕ × ℕ)) →
     book_lines (with_line h bs row) ≡ book_lines h ++ answered_by h.people (whole bs) (by_row number row)
 whole_lines h bs number None = with_said_lines h (entry_said h.people bs)
@@ -60,14 +59,12 @@ unfolding book_after
 book_people h [] = refl
 book_people h (p ∷ ps) = book_people (after h p) ps ∙ after_people h p
 
-pub answered_lines : (h : Held) (ps : List Piece) → book_lines (book_after h ps) ≡ book_lines h ++ answered h.people ps (replies h ps)
+answered_lines : (h : Held) (ps : List Piece) → book_lines (book_after h ps) ≡ book_lines h ++ answered h.people ps (replies h ps)
 unfolding book_after answered replies
 answered_lines h [] = sym (append-nil (book_lines h))
-answered_lines h (p ∷ ps) =
-    let n : ℕ = h.people in
-    let rest : List Line = answered n ps (replies (after h p) ps) in
-    let on = answered_lines (after h p) ps in
-    let same : answered (after h p).people ps (replies (after h p) ps) ≡ rest = ap (λ k. answered k ps (replies (after h p) ps)) (after_people h p) in
-    let line = after_lines h p in
-    let joined = append_assoc (book_lines h) (answered_by n p (reply h p)) rest in
-    cc
+answered_lines h (p ∷ ps) = rw (answered_lines (after h p) ps, after_lines, after_people) (append_assoc (book_lines h) _ _)
+
+-- the lines of a book that began with none
+pub ended_lines : (n : ℕ) (ps : List Piece) → book_lines (book_after (empty n) ps) ≡ answered n ps (replies (empty n) ps)
+unfolding lines
+ended_lines n ps = answered_lines (empty n) ps

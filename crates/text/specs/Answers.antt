@@ -1,9 +1,8 @@
 -- What a line is answered, and in which words.
-use Rattle.std.specs.Prelude.{ℕ, List, ◌++◌, codes, decimal}
+use Rattle.std.specs.Prelude.{ℕ, List, ◌++◌, Ok, Err, Result, codes, decimal}
 use Rattle.book.specs.Codes.{code}
 use Rattle.book.specs.Words.{refused_at}
-use Rattle.text.specs.declared.answer.Answer.{Answer}
-use Rattle.text.specs.declared.answer.Answer.TheVariants.{Taken, Refused}
+use Rattle.book.specs.declared.refusal.Refusal.{Refusal}
 
 -- the number of the line, or the number and place of the rule that refuses it
 pub data Reply : Type 0 where
@@ -11,9 +10,9 @@ pub data Reply : Type 0 where
   refused : ℕ × ℕ → Reply
 
 -- an answer by its numbers
-abbrev pub reply_of : Answer → Reply
-reply_of (Taken number) = taken number
-reply_of (Refused refusal) = refused (code refusal)
+abbrev pub reply_of : Result ℕ Refusal → Reply
+reply_of (Ok number) = taken number
+reply_of (Err refusal) = refused (code refusal)
 
 -- in words
 abbrev pub answer_said : Reply → List ℕ

@@ -7,19 +7,16 @@ use std::fmt;
 
 // A line that was taken has a number; any other was refused.
 #[derive(Clone, Copy)]
-pub enum Answer {
-    Taken(usize),
-    Refused(Refusal),
-}
+pub struct Answer(pub Result<usize, Refusal>);
 
 // The answer in words, as `line 0` or `line refused 7 at 6`.
 impl fmt::Display for Answer {
-    ghost output = { λ a. Some (answer_said (reply_of a)) };
+    ghost output = { λ a. Some (answer_said (reply_of a.0)) };
 
     fn fmt<W: fmt::Write>(&self, f: &mut fmt::Formatter<W>) -> fmt::Result {
-        match self {
-            Answer::Taken(number) => write!(f, "line {number}"),
-            Answer::Refused(refusal) => write!(f, "line {refusal}"),
+        match self.0 {
+            Ok(number) => write!(f, "line {number}"),
+            Err(refusal) => write!(f, "line {refusal}"),
         }
     }
 }

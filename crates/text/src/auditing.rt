@@ -5,28 +5,25 @@ ghost use Rattle.book.specs.Answers.{crew_size};
 ghost use Rattle.book.specs.View.{held};
 ghost use Rattle.settlement.specs.Settled.{book_lines};
 ghost use Rattle.text.specs.Auditing.{Found, JudgedAs, JudgedText, OneText, payment_bytes, payments_in};
-ghost use Rattle.text.specs.Pieces.{piece};
+ghost use Rattle.text.specs.Pieces.{read_piece};
 ghost use Rattle.text.specs.Report.{people_in};
 
+use crate::cutting::{Piece, Pieces};
 use crate::lines::add_lines;
 use crate::outcome::Outcome;
-use crate::paying::SETS;
-use crate::writing::write_line;
-use crate::{ROOM, people_and_lines};
+use crate::tables::Tables;
+use crate::{open_book, people_and_lines};
 use audit::auditing::audit;
 use audit::unaudited::Unaudited;
 use book::ledger::Book;
-use book::refusal::Refusal;
 use std::alloc::{AllocError, Global};
 
 // What is found of the payments for the book of an input, as one line of text. The error is want of memory.
 pub fn verdict(heap: Global, input: &[u8], payments: &[u8]) -> Result<String, AllocError>
     ensures { IfOk result (λ t. JudgedText input.now payments.now (string_bytes t)) }
 {
-    let mut text = String::new(heap);
     let outcome = outcome_of(heap, input, payments)?;
-    write_line(&mut text, outcome)?;
-    Ok(text)
+    format!(in heap; "{outcome}\n")
 }
 
 // No second text fits.
@@ -34,22 +31,19 @@ pub fn one_text()
     ensures { OneText }
 {}
 
-// Reads the book and audits the payments for it; where a book is refused for anything but the number of people, memory is wanting.
+// Reads the book and audits the payments for it, where so many people have a book.
 // Memory is never wanting for a number of people that is refused.
 fn outcome_of(heap: Global, input: &[u8], payments: &[u8]) -> Result<Outcome, AllocError>
     ensures outcome { IfOk result (λ o. Found input.now payments.now o) }
     ensures crew { OnErr result (crew_size (people_in input.now) ≡ true) }
 {
     let (people, lines) = people_and_lines(input);
-    match Book::new(heap, people, ROOM) {
-        Ok(mut book) => {
-            add_lines(&mut book, lines);
-            let cut = cut_payments(heap, payments)?;
-            judge(heap, &book, cut.as_slice())
-        }
-        Err(Refusal::CrewSize) => Ok(Outcome::NoCrew),
-        Err(_) => Err(AllocError),
-    }
+    let Some(mut book) = open_book(heap, people)? else {
+        return Ok(Outcome::NoCrew);
+    };
+    add_lines(&mut book, lines);
+    let cut = cut_payments(heap, payments)?;
+    judge(heap, &book, &cut)
 }
 
 // Audits payments for a book.
@@ -57,15 +51,15 @@ fn judge(heap: Global, book: &Book, payments: &[&[u8]]) -> Result<Outcome, Alloc
     ensures { IfOk result (λ o.
         JudgedAs (held book.now).people (book_lines (held book.now)) (lent payments.now) o) }
 {
-    let mut sums = vec![in heap; 0; SETS]?;
-    let mut counts = vec![in heap; 0; SETS]?;
-    match audit(book, payments, sums.as_mut_slice(), counts.as_mut_slice()) {
+    let Tables {
+        mut sums,
+        mut counts,
+    } = Tables::new(heap)?;
+    match audit(book, payments, &mut sums, &mut counts) {
         Ok(verdict) => Ok(Outcome::Judged(verdict)),
-        Err(refusal) => match refusal {
-            Unaudited::Payment { at } => Ok(Outcome::Unsound { at }),
-            // both tables have an entry for each set
-            Unaudited::Short(_) => unreachable(),
-        },
+        Err(Unaudited::Payment { at }) => Ok(Outcome::Unsound { at }),
+        // both tables have an entry for each set
+        Err(Unaudited::Short(_)) => unreachable(),
     }
 }
 
@@ -73,24 +67,15 @@ fn judge(heap: Global, book: &Book, payments: &[&[u8]]) -> Result<Outcome, Alloc
 fn cut_payments(heap: Global, payments: &[u8]) -> Result<Vec<&[u8]>, AllocError>
     ensures { IfOk result (λ v. lent v.items ≡ payments_in payments.now) }
 {
-    let mut cut = Vec::new(heap);
-    let mut rest = payments;
-    while let Some((length, left)) = rest.split_first() {
-        let length = *length as usize;
-        if let Err(_) = cut.push(bytes_of(length, left)) {
-            return Err(AllocError);
-        }
-        rest = &left[length.min(left.len())..];
-    }
-    Ok(cut)
+    Pieces(payments).map(bytes_of).collect(heap)
 }
 
-// The bytes of a payment of that length; there are none where fewer are left.
-fn bytes_of(length: usize, left: &[u8]) -> &[u8]
-    ensures { result.now ≡ payment_bytes (piece length left.now) }
+// The bytes of a payment; one that is cut has none.
+fn bytes_of(payment: Piece<'_>) -> &[u8]
+    ensures { result.now ≡ payment_bytes (read_piece payment.entry) }
 {
-    if length > left.len() {
-        return &left[0..0];
+    match payment {
+        Piece::Whole(bytes) => bytes,
+        Piece::Cut(_) => &[],
     }
-    &left[0..length]
 }

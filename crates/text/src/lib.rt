@@ -1,15 +1,12 @@
 // What the program prints, as one function from the input's bytes to a text.
 #![tactic(auto)]
 
-ghost use Rattle.std.specs.Prelude.{◌≡◌, ◌++◌, drop, IfOk, string_bytes};
-ghost use Rattle.book.specs.Codes.{code};
+ghost use Rattle.std.specs.Prelude.{◌≡◌, true, false, drop, IfOk, MatchOption, OnErr, string_bytes};
+ghost use Rattle.book.specs.Answers.{crew_size};
 ghost use Rattle.book.specs.View.{held};
-ghost use Rattle.book.specs.Words.{refused_at};
-ghost use Rattle.book.specs.declared.refusal.Refusal.TheVariants.{CrewSize};
 ghost use Rattle.settlement.specs.Settled.{book_lines};
-ghost use Rattle.text.specs.Report.{Closed, Reported, Told, people_in};
+ghost use Rattle.text.specs.Report.{Closed, Reported, Told, empty, people_in};
 ghost use Rattle.text.specs.Pieces.{pieces};
-ghost use Rattle.text.specs.Texts.{as_line};
 
 use balances::sheet::Balances;
 use book::ledger::Book;
@@ -22,16 +19,18 @@ use writing::write_line;
 
 pub mod answer;
 pub mod auditing;
+mod cutting;
 pub mod lines;
 pub mod outcome;
 pub mod owing;
 pub mod paying;
 pub mod side;
+mod tables;
 #[cfg(test)]
 mod tests;
 mod writing;
 
-pub(crate) const ROOM: usize = 512;
+const ROOM: usize = 512;
 
 // The report on a book: one byte for the number of people, and then the lines. The error is want of memory.
 pub fn report(heap: Global, input: &[u8]) -> Result<String, AllocError>
@@ -39,10 +38,11 @@ pub fn report(heap: Global, input: &[u8]) -> Result<String, AllocError>
 {
     let mut text = String::new(heap);
     let (people, lines) = people_and_lines(input);
-    match Book::new(heap, people, ROOM) {
-        Ok(mut book) => report_lines(heap, &mut book, lines, &mut text)?,
-        Err(refusal) => refuse_book(refusal, &mut text)?,
-    }
+    let Some(mut book) = open_book(heap, people)? else {
+        write_line(&mut text, Refusal::CrewSize)?;
+        return Ok(text);
+    };
+    report_lines(heap, &mut book, lines, &mut text)?;
     Ok(text)
 }
 
@@ -57,8 +57,7 @@ fn report_lines(
         Told (held book.old) (pieces lines.now) (string_bytes text.old) (string_bytes text.new)) }
 {
     read_lines(book, lines, text)?;
-    close_book(heap, book, text)?;
-    Ok(())
+    close_book(heap, book, text)
 }
 
 // Writes what is said of a book after the answers to its lines: the balances, and the payments that settle them.
@@ -69,8 +68,7 @@ fn close_book(heap: Global, book: &Book, text: &mut String) -> Result<(), AllocE
 {
     write_balances(&Balances::of(book), text)?;
     let payments = payments_of(heap, book)?;
-    write_payments(payments.as_slice(), text)?;
-    Ok(())
+    write_payments(&payments, text)
 }
 
 // The number of people, which is 0 where there is no byte at all, and the bytes of the lines after it.
@@ -78,19 +76,23 @@ pub(crate) fn people_and_lines(input: &[u8]) -> (u8, &[u8])
     ensures people { result.0 ≡ people_in input.now }
     ensures lines { result.1.now ≡ drop 1 input.now }
 {
-    match input.split_first() {
-        Some((people, lines)) => (*people, lines),
-        None => (0, input),
+    match input {
+        [people, lines @ ..] => (*people, lines),
+        [] => (0, input),
     }
 }
 
-// Writes the refusal of the number of people; where a book is refused for anything else, memory is wanting.
-fn refuse_book(refusal: Refusal, text: &mut String) -> Result<(), AllocError>
-    ensures { IfOk result (λ _.
-        (refusal ≡ CrewSize) × (string_bytes text.new ≡ string_bytes text.old ++ as_line (refused_at (code refusal)))) }
+// A book of no lines with room for 512, or none where so many people have no book. The error is want of memory.
+// Memory is never wanting for a number of people that is refused.
+pub(crate) fn open_book(heap: Global, people: u8) -> Result<Option<Book>, AllocError>
+    ensures opened { IfOk result (λ o. MatchOption o
+        (crew_size people ≡ false) (λ b. (crew_size people ≡ true) × (held b ≡ empty people))) }
+    ensures crew { OnErr result (crew_size people ≡ true) }
 {
-    match refusal {
-        Refusal::CrewSize => write_line(text, refusal),
-        _ => Err(AllocError),
+    match Book::new(heap, people, ROOM) {
+        Ok(book) => Ok(Some(book)),
+        Err(Refusal::CrewSize) => Ok(None),
+        // a book answers want of memory as a refusal of its own
+        Err(_) => Err(AllocError),
     }
 }

@@ -22,10 +22,7 @@ impl fmt::Display for Outcome {
 
     fn fmt<W: fmt::Write>(&self, f: &mut fmt::Formatter<W>) -> fmt::Result {
         match self {
-            Outcome::NoCrew => {
-                let refusal = Refusal::CrewSize;
-                write!(f, "{refusal}")
-            }
+            Outcome::NoCrew => write!(f, "{}", Refusal::CrewSize),
             Outcome::Unsound { at } => {
                 let number = Unaudited::Payment { at: *at }.number();
                 write!(f, "payment refused {number} at {at}")

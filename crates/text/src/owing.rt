@@ -1,7 +1,7 @@
 // Writing who owes and who is owed.
-ghost use Rattle.std.specs.Prelude.{◌≡◌, ◌++◌, IfOk, string_bytes, OnOk};
+ghost use Rattle.std.specs.Prelude.{◌≡◌, ◌++◌, string_bytes, OnOk};
 ghost use Rattle.balances.specs.View.{sides_of};
-ghost use Rattle.text.specs.Sides.{balance_said, balances_said};
+ghost use Rattle.text.specs.Sides.{balances_said};
 
 use crate::side::Side;
 use crate::writing::write_line;
@@ -12,19 +12,11 @@ use std::alloc::AllocError;
 pub fn write_balances(balances: &Balances, text: &mut String) -> Result<(), AllocError>
     ensures { OnOk result (string_bytes text.new ≡ string_bytes text.old ++ balances_said (sides_of balances.now)) }
 {
+    // a person's number is a byte, and enumerate() would count in usize
     for person in 0..balances.people() {
-        write_balance(balances, person, text)?;
+        if let Some(side) = Side::of(person, balances.balance(person)) {
+            write_line(text, side)?;
+        }
     }
     Ok(())
-}
-
-// Writes the line of one person; who is even has none.
-fn write_balance(balances: &Balances, person: u8, text: &mut String) -> Result<(), AllocError>
-    ensures { IfOk result (λ _.
-        string_bytes text.new ≡ string_bytes text.old ++ balance_said (sides_of balances.now) person) }
-{
-    match Side::of(person, balances.balance(person)) {
-        Some(side) => write_line(text, side),
-        None => Ok(()),
-    }
 }

@@ -5,6 +5,7 @@ ghost use Rattle.settlement.specs.Reading.{read_payment, read_payments};
 ghost use Rattle.settlement.specs.Settled.{book_lines};
 ghost use Rattle.text.specs.Payments.{Settled, payment_said, payments_said};
 
+use crate::tables::Tables;
 use crate::writing::write_line;
 use book::ledger::Book;
 use groups::ungrouped::Ungrouped;
@@ -12,9 +13,6 @@ use settlement::payment::Payment;
 use settlement::settling::settle;
 use std::alloc::{AllocError, Global};
 use std::fmt;
-
-// Sixteen people have so many sets.
-pub(crate) const SETS: usize = 1 << 16;
 
 // A payment as a line says it, as `1 pays 0 23`.
 #[derive(Clone, Copy)]
@@ -33,15 +31,15 @@ impl fmt::Display for Pays {
 pub fn payments_of(heap: Global, book: &Book) -> Result<Vec<Payment>, AllocError>
     ensures { IfOk result (λ v. Settled (held book.now).people (book_lines (held book.now)) (read_payments v.items)) }
 {
-    let mut sums = vec![in heap; 0; SETS]?;
-    let mut counts = vec![in heap; 0; SETS]?;
-    match settle(heap, book, sums.as_mut_slice(), counts.as_mut_slice()) {
+    let Tables {
+        mut sums,
+        mut counts,
+    } = Tables::new(heap)?;
+    match settle(heap, book, &mut sums, &mut counts) {
         Ok(payments) => Ok(payments),
-        Err(refusal) => match refusal {
-            Ungrouped::Memory => Err(AllocError),
-            // both tables have an entry for each set
-            Ungrouped::Short(_) => unreachable(),
-        },
+        Err(Ungrouped::Memory) => Err(AllocError),
+        // both tables have an entry for each set
+        Err(Ungrouped::Short(_)) => unreachable(),
     }
 }
 

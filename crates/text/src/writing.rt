@@ -9,8 +9,5 @@ use std::fmt::Display;
 pub(crate) fn write_line<D: Display + Drop>(text: &mut String, value: D) -> Result<(), AllocError>
     ensures { OnOk result (IfSome (D.output value) (λ bs. string_bytes text.new ≡ string_bytes text.old ++ as_line bs)) }
 {
-    match text.writeln(value) {
-        Ok(()) => Ok(()),
-        Err(_) => Err(AllocError),
-    }
+    writeln!(text, "{value}")
 }

@@ -1,20 +1,12 @@
-use Rattle.std.proofs.Common.{vec_items, sym, ◌∙◌}
-use Rattle.audit.specs.Bytes.{lent}
-use Rattle.std.proofs.lemmas.List.{nil_from_length}
-use Rattle.text.proofs.Audits.{cut_end, cut_more}
-use Rattle.text.proofs.Runs.{past_line}
+use Rattle.std.proofs.Common.{rules, ap}
+use Rattle.std.proofs.lemmas.Iterator.{YieldsList-from_map_by}
+use Rattle.std.proofs.lemmas.Iterator.Consumers.{YieldsList-from_first, map_from_collect}
 use Rattle.text.proofs.auditing.cut_payments.Goals as goal
-
-pub loop-length-preserved : goal.loop-length-preserved
-loop-length-preserved c =
-    let n = c.in-Some.length.now in
-    let left = c.in-Some.left.now in
-    let rest = c.loop-length.rest.now in
-    let past = past_line n c.min.result left c.min.ensures in
-    let more = cut_more (vec_items c.loop-length.cut) c.bytes_of.result n left rest c.in-Some.ensures.cases.0 c.bytes_of.ensures in
-    rw (past, c.in_default-push.ensures.items) (more ∙ c.loop-length.invariant)
+use Rattle.text.specs.Auditing.{payment_bytes}
+use Rattle.text.specs.Pieces.{pieces_left, read_piece}
 
 pub returns : goal.returns
 returns c =
-    let none = nil_from_length c.loop-length.rest.now c.in_default.ensures.cases in
-    sym (cut_end (lent (vec_items c.loop-length.cut))) ∙ (rw none at c.loop-length.invariant)
+    let pieces = YieldsList-from_first read_piece pieces_left _ (ap pieces_left c.map.ensures.source) in
+    map_from_collect _ c.collect.ensures.ran
+    (YieldsList-from_map_by _ (λ p. p.now) payment_bytes pieces c.map.ensures.closure (λ x r q k. search rules))

@@ -1,18 +1,10 @@
-use Rattle.std.proofs.Common.{sym, ◌∙◌}
-use Rattle.book.specs.View.{held}
-use Rattle.std.proofs.lemmas.List.{nil_from_length}
-use Rattle.text.proofs.Runs.{book_end, book_more, past_line}
 use Rattle.text.proofs.lines.add_lines.Goals as goal
+use Rattle.text.specs.Run.{book_after}
 
-pub loop-length-preserved : goal.loop-length-preserved
-loop-length-preserved c =
-    let n = c.in-Some.length.now in
-    let left = c.in-Some.left.now in
-    let past = past_line n c.min.result left c.min.ensures in
-    let more = book_more (held c.loop-length.book) n left c.loop-length.rest.now c.in-Some.ensures.cases.0 in
-    rw (past, c.answer_line.ensures.grown) (more ∙ c.loop-length.invariant)
+pub loop-piece-preserved : goal.loop-piece-preserved
+unfolding book_after
+loop-piece-preserved c = rw c.answer_line.ensures.grown (rw c.in-Some.ensures.steps at c.loop-piece.invariant)
 
 pub returns : goal.returns
-returns c =
-    let none = nil_from_length c.loop-length.rest.now c.in_default.ensures.cases in
-    sym (book_end (held c.loop-length.book)) ∙ (rw none at c.loop-length.invariant)
+unfolding book_after
+returns c = rw c.in-None.ensures.steps.0 at c.loop-piece.invariant

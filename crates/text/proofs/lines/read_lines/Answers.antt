@@ -1,32 +1,18 @@
-use Rattle.std.proofs.Common.{string_bytes, sym, ◌∙◌}
-use Rattle.book.specs.View.{held}
-use Rattle.std.proofs.lemmas.List.{nil_from_length}
-use Rattle.text.proofs.Runs.{book_end, book_more, past_line, text_end, text_more}
+use Rattle.std.proofs.Common.{string_bytes, append_assoc, sym, ◌∙◌}
+use Rattle.std.proofs.lemmas.List.{append-nil}
 use Rattle.text.proofs.lines.read_lines.Goals as goal
-use Rattle.text.specs.Answers.{reply_of}
+use Rattle.text.specs.Run.{book_after, replies, said}
 
-pub loop-length-preserved : goal.loop-length-preserved
-loop-length-preserved c =
-    let h = held c.loop-length.book in
-    let n = c.in-Some.length.now in
-    let left = c.in-Some.left.now in
-    let is = c.in-Some.ensures.cases.0 in
-    let past = past_line n c.min.result left c.min.ensures in
-    let written = c.in_ok-write_line.ensures in
-    let answer = c.answer_line-answer in
-    let rest = c.loop-length.rest.now in
-    let text = text_more h n left rest is (reply_of answer.result) (string_bytes c.loop-length.text) answer.ensures.answered in
-    let book = book_more h n left rest is in (
-      rw (written, past, answer.ensures.grown) (text ∙ c.loop-length.invariant.0),
-      rw (past, answer.ensures.grown) (book ∙ c.loop-length.invariant.1),
+pub loop-piece-preserved : goal.loop-piece-preserved
+unfolding book_after replies said
+loop-piece-preserved c =
+    let inv = rw c.in-Some.ensures.steps at c.loop-piece.invariant in (
+      rw (c.in_ok-write_line.ensures, c.answer_line.ensures.answered, c.answer_line.ensures.grown) (append_assoc (string_bytes c.loop-piece.text) _ _ ∙ inv.0),
+      rw c.answer_line.ensures.grown inv.1,
     )
 
 pub returns : goal.returns
+unfolding book_after replies said
 returns c =
-    let h = held c.loop-length.book in
-    let none = nil_from_length c.loop-length.rest.now c.in_default.ensures.cases in
-    let inv = c.loop-length.invariant in
-    record {
-      kept = sym (book_end h) ∙ (rw none at inv.1);
-      written = sym (text_end h (string_bytes c.loop-length.text)) ∙ (rw none at inv.0);
-    }
+    let inv = rw c.in-None.ensures.steps.0 at c.loop-piece.invariant in
+    record { kept = inv.1; written = sym (append-nil _) ∙ inv.0 }
