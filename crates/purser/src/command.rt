@@ -3,7 +3,7 @@ ghost use Rattle.std.specs.Prelude.{◌≡◌, slice_get};
 ghost use Rattle.std.specs.Vec.Iter.{into_iter_items};
 ghost use Rattle.purser.specs.Asked.{asked, asked_alone, asked_by, audit_after, audit_of, is_option};
 
-use std::env::Args;
+use std::vec::IntoIter;
 
 #[derive(Drop)]
 pub enum Command {
@@ -25,7 +25,7 @@ pub enum Command {
 }
 
 // By the first four arguments, if there are any.
-pub fn asked_for(mut words: Args) -> Command
+pub fn asked_for(mut words: IntoIter<String>) -> Command
     ensures { let word = slice_get (into_iter_items words) in result ≡ asked (word 0) (word 1) (word 2) (word 3) }
 {
     match words.next() {
@@ -36,7 +36,7 @@ pub fn asked_for(mut words: Args) -> Command
 }
 
 // By the words after --audit: a file of payments, a file of the book if there is one, and nothing more.
-fn audit_after(mut words: Args) -> Command
+fn audit_after(mut words: IntoIter<String>) -> Command
     ensures { let word = slice_get (into_iter_items words) in result ≡ audit_after (word 0) (word 1) (word 2) }
 {
     match words.next() {
@@ -47,7 +47,7 @@ fn audit_after(mut words: Args) -> Command
 }
 
 // By a file of payments and the words after it.
-fn audit_of(payments: String, mut words: Args) -> Command
+fn audit_of(payments: String, mut words: IntoIter<String>) -> Command
     ensures { let word = slice_get (into_iter_items words) in result ≡ audit_of payments (word 0) (word 1) }
 {
     match words.next() {
