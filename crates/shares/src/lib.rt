@@ -9,11 +9,7 @@ ghost use Rattle.shares.specs.Promise.{SharesAdd, ShareNear};
 fn total_weight(weights: &[u16; 16]) -> u32
     ensures { result ≡ total weights.now }
 {
-    let mut sum = 0;
-    for weight in weights {
-        sum += u32::from(*weight);
-    }
-    sum
+    weights.iter().map(|weight| u32::from(*weight)).sum()
 }
 
 // The cents of an amount that fall to a part of all weights, rounded down; 0 where all weights are 0.
