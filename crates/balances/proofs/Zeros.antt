@@ -1,10 +1,15 @@
 -- Numbers with zeros after them, for people who are not there.
-use Rattle.std.proofs.Common.{◌≡◌, ℕ, zero, suc, ◌+◌, ◌-◌, ◌<◌, ◌≤◌, true, not, List, [], ◌∷◌, ◌++◌, length, take, set, replicate, ℤ, pos, refl, ◌∙◌, append_assoc, arith}
-use Rattle.std.proofs.lemmas.List.{get_or_past, length-take-le, set_at, take_more}
-use Rattle.std.proofs.lemmas.Bool.{and_parts, and_from}
-use Rattle.balances.specs.Faults.{padded}
-use Rattle.balances.specs.Range.{far, all_near}
+use Rattle.std.proofs.Common.{◌≡◌, ℕ, zero, suc, ◌≤◌, List, [], ◌∷◌, ◌++◌, length, replicate, nat_lt, cond, position, nat_abs, ◌==◌, Some, None, ℤ, pos, Ok, Err, Result, refl, ◌∙◌, arith}
+use Rattle.std.proofs.lemmas.List.{get_or_past}
+use Rattle.std.proofs.lemmas.Bool.{le-ltb}
+use Rattle.std.proofs.lemmas.Bool.Decides.{nat_tests}
+use Rattle.std.specs.Option.{option_map}
+use Rattle.balances.specs.Faults.{fault, first_far, first_fault, padded}
+use Rattle.balances.specs.Range.{far}
 use Rattle.balances.specs.Signed.{at_person, span_z}
+use Rattle.balances.specs.declared.unbalanced.Unbalanced.{Unbalanced}
+use Rattle.balances.specs.declared.unbalanced.Unbalanced.TheVariants.{TooMany, OutOfRange, NotEven}
+use Rattle.balances.proofs.FirstFar.{first_far_padded, first_far_position}
 use Rattle.balances.proofs.SpansZ.{span_z_pad, span_z_same}
 
 pub zero_at : (m i : ℕ) → at_person (replicate m (pos 0)) i ≡ pos 0
@@ -18,29 +23,28 @@ at_zeros [] m i = zero_at m i
 at_zeros (x ∷ xs) m zero = refl
 at_zeros (x ∷ xs) m (suc i) = at_zeros xs m i
 
-near_zeros : (m : ℕ) → all_near (replicate m (pos 0)) ≡ true
-unfolding all_near
-near_zeros zero = refl
-near_zeros (suc m) = near_zeros m
-
-pub near_padded : (xs : List ℤ) (m : ℕ) → all_near xs ≡ true → all_near (xs ++ replicate m (pos 0)) ≡ true
-unfolding all_near
-near_padded [] m h = near_zeros m
-near_padded (x ∷ xs) m h =
-    let parts = and_parts (not (far x)) (all_near xs) h in
-    and_from (not (far x)) (all_near (xs ++ replicate m (pos 0))) parts.0 (near_padded xs m parts.1)
-
 -- nor the sum
 pub span_padded : (xs : List ℤ) → length xs ≤ 16 → span_z (at_person (padded xs)) 16 ≡ span_z (at_person xs) (length xs)
 span_padded xs few =
     span_z_same (at_person (padded xs)) (at_person xs) 16 (λ i l. at_zeros xs _ i)
     ∙ span_z_pad (at_person xs) (length xs) 16 few (λ i l. get_or_past xs i (pos 0) l)
 
--- n zeros, of which one more is written over by the next number
-pub zeros_more :
-    (xs : List ℤ) (n i : ℕ) → i < n → i < length xs →
-    set (take i xs ++ replicate (n - i) (pos 0)) i (at_person xs i) ≡ take (i + 1) xs ++ replicate (n - (i + 1)) (pos 0)
-zeros_more xs n i l there =
-    let left : n - i ≡ suc (n - (i + 1)) = omega arith in
-    rw (left, take_more xs i (pos 0) there, append_assoc)
-    (set_at (take i xs) (pos 0) (replicate (n - (i + 1)) (pos 0)) (at_person xs i) i (length-take-le i xs (omega arith)))
+-- sixteen numbers that come from these, which are no more
+module _ (xs all : List ℤ) (from : ◌≡◌ {A = Result (List ℤ) Unbalanced} (Ok all) (cond (nat_lt 16 (length xs)) (Err TooMany) (Ok (padded xs)))) where
+  pub few : length xs ≤ 16
+  few = grind (arith, nat_tests)
+
+  pub same : all ≡ padded xs
+  same = grind (arith, nat_tests)
+
+  -- which have the first number out of range and the sum that these have
+  same_first : first_far 0 xs ≡ position far all
+  same_first = rw (same, ← first_far_position, first_far_padded)
+
+  same_sum : span_z (at_person xs) (length xs) ≡ span_z (at_person all) 16
+  same_sum = rw (same, span_padded xs few)
+
+  -- and so the faults, but for too many
+  pub same_fault :
+      fault xs ≡ first_fault (option_map OutOfRange (position far all) ∷ cond (nat_abs (span_z (at_person all) 16) == 0) None (Some NotEven) ∷ [])
+  same_fault = rw (le-ltb 16 (length xs) few, same_first, same_sum)

@@ -1,30 +1,38 @@
-use Rattle.std.proofs.Common.{◌≡◌, length, drop, pos, sym, refl, ap, ◌∙◌, arith, rules}
+-- With their zeros the numbers have the first number out of range and the sum that they have themselves.
+use Rattle.std.proofs.Common.{length, drop, sym, refl, ap, ◌∙◌, rules}
 use Rattle.std.proofs.lemmas.List.{drop_at}
-use Rattle.balances.proofs.FirstFar.{none_far, no_fault}
-use Rattle.balances.proofs.Zeros.{at_zeros, near_padded, span_padded}
-use Rattle.balances.specs.Range.{all_near}
-use Rattle.balances.specs.Signed.{at_person, span_z}
+use Rattle.balances.proofs.FirstFar.{none_far}
+use Rattle.balances.proofs.Zeros.{at_zeros, few, same, same_fault}
+use Rattle.balances.specs.Signed.{at_person}
 use Rattle.balances.proofs.sheet.Balances.from_cents.Goals as goal
 
+pub returns-in-Some : goal.returns-in-Some
+returns-in-Some c = same_fault c.args.cents.now c.in_ok-all.all c.in_ok-all.ensures ∙ rw (← c.in-Some.ensures)
+
 pub sum-requires : goal.sum-requires
-sum-requires c = record { few = omega arith; near = none_far 0 c.args.cents.now (sym c.in_default.ensures) }
+sum-requires c = none_far c.in_ok-all.all (sym c.in_default.ensures)
+
+pub returns-then-sum-ne0 : goal.returns-then-sum-ne0
+returns-then-sum-ne0 c =
+    same_fault c.args.cents.now c.in_ok-all.all c.in_ok-all.ensures ∙ rw (← c.in_default.ensures, ← c.sum.ensures) (search rules)
 
 pub invariant_of-result : goal.invariant_of-result
 invariant_of-result c =
     let xs = c.args.cents.now in
-    let is = c.padded.ensures in
-    let none : c.sum.result ≡ pos 0 = search rules in
-    let near = ap all_near is ∙ near_padded xs _ (none_far 0 xs (sym c.in_default.ensures)) in
-    let absent = ap (drop (length xs)) is ∙ drop_at xs _ (length xs) refl in
-    let even = ap (λ ys. span_z (at_person ys) 16) is ∙ span_padded xs (omega arith) ∙ sym c.sum.ensures ∙ none in
-    record { crew = omega arith; near = near; absent = absent; even = even }
+    let all = c.in_ok-all.all in
+    record {
+      crew = few xs all c.in_ok-all.ensures;
+      near = none_far all (sym c.in_default.ensures);
+      absent = ap (drop (length xs)) (same xs all c.in_ok-all.ensures) ∙ drop_at xs _ (length xs) refl;
+      even = sym c.sum.ensures ∙ search rules;
+    }
 
 pub returns : goal.returns
 returns c =
     let xs = c.args.cents.now in
-    let none : c.sum.result ≡ pos 0 = search rules in
+    let all = c.in_ok-all.all in
     record {
-      no_fault = no_fault xs (omega arith) (sym c.in_default.ensures) (sym c.sum.ensures ∙ none);
+      no_fault = same_fault xs all c.in_ok-all.ensures ∙ rw (← c.in_default.ensures, ← c.sum.ensures) (search rules);
       people = refl;
-      each = λ i. ap (λ ys. at_person ys i) c.padded.ensures ∙ at_zeros xs _ i;
+      each = λ i. ap (λ ys. at_person ys i) (same xs all c.in_ok-all.ensures) ∙ at_zeros xs _ i;
     }
