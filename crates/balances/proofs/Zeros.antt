@@ -1,15 +1,13 @@
 -- Numbers with zeros after them, for people who are not there.
-use Rattle.std.proofs.Common.{◌≡◌, ℕ, zero, suc, ◌≤◌, List, [], ◌∷◌, ◌++◌, length, replicate, nat_lt, cond, position, nat_abs, ◌==◌, Some, None, ℤ, pos, Ok, Err, Result, refl, ◌∙◌, arith}
-use Rattle.std.proofs.lemmas.List.{get_or_past}
-use Rattle.std.proofs.lemmas.Bool.{le-ltb}
+use Rattle.std.proofs.Common.{◌≡◌, ℕ, zero, suc, ◌≤◌, List, [], ◌∷◌, ◌++◌, ◌-◌, drop, length, replicate, nat_lt, cond, position, ℤ, pos, Ok, Err, Result, refl, ◌∙◌, arith}
+use Rattle.std.proofs.lemmas.List.{drop_at, get_or_past}
 use Rattle.std.proofs.lemmas.Bool.Decides.{nat_tests}
-use Rattle.std.specs.Option.{option_map}
-use Rattle.balances.specs.Faults.{fault, first_far, first_fault, padded}
+use Rattle.balances.specs.Faults.{first_far, padded}
 use Rattle.balances.specs.Range.{far}
 use Rattle.balances.specs.Signed.{at_person, span_z}
 use Rattle.balances.specs.declared.unbalanced.Unbalanced.{Unbalanced}
-use Rattle.balances.specs.declared.unbalanced.Unbalanced.TheVariants.{TooMany, OutOfRange, NotEven}
-use Rattle.balances.proofs.FirstFar.{first_far_padded, first_far_position}
+use Rattle.balances.specs.declared.unbalanced.Unbalanced.TheVariants.{TooMany}
+use Rattle.balances.proofs.FirstFar.{first_far_padded, first_far_position, none_far}
 use Rattle.balances.proofs.SpansZ.{span_z_pad, span_z_same}
 
 pub zero_at : (m i : ℕ) → at_person (replicate m (pos 0)) i ≡ pos 0
@@ -34,17 +32,22 @@ module _ (xs all : List ℤ) (from : ◌≡◌ {A = Result (List ℤ) Unbalanced
   pub few : length xs ≤ 16
   few = grind (arith, nat_tests)
 
-  pub same : all ≡ padded xs
+  same : all ≡ padded xs
   same = grind (arith, nat_tests)
 
   -- which have the first number out of range and the sum that these have
-  same_first : first_far 0 xs ≡ position far all
+  pub same_first : first_far 0 xs ≡ position far all
   same_first = rw (same, ← first_far_position, first_far_padded)
 
-  same_sum : span_z (at_person xs) (length xs) ≡ span_z (at_person all) 16
+  pub same_sum : span_z (at_person xs) (length xs) ≡ span_z (at_person all) 16
   same_sum = rw (same, span_padded xs few)
 
-  -- and so the faults, but for too many
-  pub same_fault :
-      fault xs ≡ first_fault (option_map OutOfRange (position far all) ∷ cond (nat_abs (span_z (at_person all) 16) == 0) None (Some NotEven) ∷ [])
-  same_fault = rw (le-ltb 16 (length xs) few, same_first, same_sum)
+  -- what each person has, and that the others have 0
+  pub same_at : (i : ℕ) → at_person all i ≡ at_person xs i
+  same_at i = rw same (at_zeros xs _ i)
+
+  pub same_absent : drop (length xs) all ≡ replicate (16 - length xs) (pos 0)
+  same_absent = rw same (drop_at xs _ (length xs) refl)
+
+-- what `from_cents` needs of the numbers that it tests
+pub ruleset tested = (few, same_first, same_sum, same_at, same_absent, none_far)

@@ -15,6 +15,7 @@ const MAX_CENTS: u64 = 1 << 48;
 impl Balances {
     // The balances of people with these numbers, or the first fault in them. Not `TryFrom`, for which callers would
     // have to write an array as `&[57, -23, -34][..]`.
+    #[tactic(auto, using(crate::proofs::Zeros::tested))]
     pub fn from_cents(cents: &[i64]) -> Result<Balances, Unbalanced>
         ensures { Taken cents.now result }
     {
