@@ -1,7 +1,8 @@
 -- Numbers with zeros after them, for people who are not there.
-use Rattle.std.proofs.Common.{◌≡◌, ℕ, zero, suc, ◌≤◌, List, [], ◌∷◌, ◌++◌, ◌-◌, drop, length, replicate, nat_lt, cond, position, ℤ, pos, Ok, Err, Result, refl, ◌∙◌, arith}
+use Rattle.std.proofs.Common.{◌≡◌, ℕ, ◌≤◌, List, ◌++◌, ◌-◌, drop, length, replicate, nat_lt, cond, position, ℤ, pos, Ok, Err, Result, refl, ◌∙◌, arith}
 use Rattle.std.proofs.lemmas.List.{drop_at, get_or_past}
 use Rattle.std.proofs.lemmas.Bool.Decides.{nat_tests}
+use Rattle.std.proofs.lemmas.Grind.{common_steps}
 use Rattle.balances.specs.Faults.{first_far, padded}
 use Rattle.balances.specs.Range.{far}
 use Rattle.balances.specs.Signed.{at_person, span_z}
@@ -11,15 +12,11 @@ use Rattle.balances.proofs.FirstFar.{first_far_padded, first_far_position, none_
 use Rattle.balances.proofs.SpansZ.{span_z_pad, span_z_same}
 
 pub zero_at : (m i : ℕ) → at_person (replicate m (pos 0)) i ≡ pos 0
-zero_at zero i = refl
-zero_at (suc m) zero = refl
-zero_at (suc m) (suc i) = zero_at m i
+zero_at m i = grind (arith, common_steps)
 
 -- zeros after the numbers change nobody's
 pub at_zeros : (xs : List ℤ) (m i : ℕ) → at_person (xs ++ replicate m (pos 0)) i ≡ at_person xs i
-at_zeros [] m i = zero_at m i
-at_zeros (x ∷ xs) m zero = refl
-at_zeros (x ∷ xs) m (suc i) = at_zeros xs m i
+at_zeros xs m i = grind (arith, common_steps)
 
 -- nor the sum
 pub span_padded : (xs : List ℤ) → length xs ≤ 16 → span_z (at_person (padded xs)) 16 ≡ span_z (at_person xs) (length xs)
