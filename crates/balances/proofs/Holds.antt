@@ -10,7 +10,6 @@ use Rattle.balances.specs.View.{people_of, cents_of, sides_of}
 use Rattle.balances.specs.declared.sheet.Balances.{Balances}
 use Rattle.balances.proofs.Signs.{signed_even}
 use Rattle.balances.proofs.SpansZ.{span_z_pad}
-use Rattle.balances.proofs.Zeros.{zero_at}
 
 pub near_each : (xs : List ℤ) (i : ℕ) → all_near xs ≡ true → nat_abs (at_person xs i) ≤ most
 unfolding all_near
@@ -27,7 +26,6 @@ module _ (b : Balances) where
   pub absent_at : (i : ℕ) → people_of b ≤ i → cents_of b i ≡ pos 0
   absent_at i l =
       let zeros = ap (λ xs. at_person xs (i - b.people)) b.absent in
-      let none = zero_at (16 - b.people) (i - b.people) in
       grind (arith, common_steps)
 
   -- the numbers of the people who are there sum to 0
