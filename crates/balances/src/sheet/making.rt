@@ -35,7 +35,7 @@ impl Balances {
     }
 }
 
-// Sixteen numbers: these, which may not be more, and then 0.
+// Sixteen numbers: these, of which there may not be more, and then 0.
 fn padded(cents: &[i64]) -> Result<[i64; 16], Unbalanced>
     ensures { result ≡ cond (nat_lt 16 (length cents.now)) (Err TooMany) (Ok (padded cents.now)) }
 {
