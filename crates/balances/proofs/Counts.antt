@@ -1,5 +1,5 @@
 -- What counting a line does to sixteen numbers: what the code writes is what the line moves.
-use Rattle.std.proofs.Common.{◌≡◌, ℕ, ◌<◌, Bool, true, false, eqb, List, length, get_or, set, ℤ, pos, ◌+ℤ◌, ◌-ℤ◌, neg_ℤ, refl, ap, ◌∙◌, arith, length-set}
+use Rattle.std.proofs.Common.{◌≡◌, ℕ, ◌<◌, Bool, eqb, List, length, get_or, set, ℤ, pos, ◌+ℤ◌, ◌-ℤ◌, neg_ℤ, refl, ap, ◌∙◌, arith, length-set}
 use Rattle.std.proofs.lemmas.List.FromFn.{get_or-map-range_with_len, fill_by_all}
 use Rattle.std.proofs.lemmas.List.{take_all}
 use Rattle.std.proofs.lemmas.Int.{ints}
@@ -37,12 +37,10 @@ unfolding less_shares
 length_less_shares shares xs = refl
 
 pick_more : (t : Bool) (a : ℕ) → pick t (pos a) (pos 0) ≡ pos (pick t a 0)
-pick_more true a = refl
-pick_more false a = refl
+pick_more t a = grind arith
 
 pick_less : (t : Bool) (a : ℕ) → pick t (neg_ℤ (pos a)) (pos 0) ≡ neg_ℤ (pos (pick t a 0))
-pick_less true a = refl
-pick_less false a = refl
+pick_less t a = grind arith
 
 module _ (xs : List ℤ) (sixteen : length xs ≡ 16) where
   -- a bill: its amount to the payer, and then off each number its share

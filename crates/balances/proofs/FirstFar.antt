@@ -1,26 +1,35 @@
 -- The search for the first number out of range.
-use Rattle.std.proofs.Common.{◌≡◌, ℕ, suc, ◌+◌, ◌<◌, ◌≤◌, true, cond, List, [], ◌∷◌, length, drop, ℤ, pos, Some, None, refl, ◌∙◌, add-one, arith}
-use Rattle.std.proofs.lemmas.List.{at_drop_more, at_drop_all}
-use Rattle.std.proofs.lemmas.Bool.{le-ltb}
-use Rattle.balances.specs.Faults.{first_far, fault}
+use Rattle.std.proofs.Common.{◌≡◌, ℕ, zero, suc, ◌-◌, true, cond, List, [], ◌∷◌, ◌++◌, length, replicate, position, ℤ, pos, None, Some, sym, refl, ap, ◌∙◌, add-one, arith}
+use Rattle.std.specs.List.{position_from}
+use Rattle.std.proofs.lemmas.Iterator.Adapters.{position_from-zero}
+use Rattle.balances.specs.Faults.{first_far, padded}
 use Rattle.balances.specs.Range.{far, all_near}
-use Rattle.balances.specs.Signed.{at_person, span_z}
 
--- one person on
-pub first_far_more :
-    (xs : List ℤ) (i : ℕ) → i < length xs →
-    first_far i (drop i xs) ≡ cond (far (at_person xs i)) (Some i) (first_far (i + 1) (drop (i + 1) xs))
-first_far_more xs i l = at_drop_more (first_far i) xs i (pos 0) l ∙ rw (← add-one i)
+-- it goes by place
+pub first_far_position : (xs : List ℤ) → first_far 0 xs ≡ position far xs
+first_far_position xs = far_from 0 xs ∙ sym (position_from-zero far xs)
+  where
+    far_from : (k : ℕ) (xs : List ℤ) → first_far k xs ≡ position_from far k xs
+    far_from k [] = refl
+    far_from k (x ∷ xs) = rw add-one (ap (cond (far x) (Some k)) (far_from (suc k) xs))
 
-pub first_far_all : (xs : List ℤ) (i : ℕ) → length xs ≤ i → first_far i (drop i xs) ≡ None
-first_far_all xs i l = at_drop_all (first_far i) xs i l
+-- zeros after the numbers are in range
+pub first_far_padded : (xs : List ℤ) → first_far 0 (padded xs) ≡ first_far 0 xs
+first_far_padded xs = with_zeros 0 xs
+  where
+    zeros : (k m : ℕ) → first_far k (replicate m (pos 0)) ≡ None
+    zeros k zero = refl
+    zeros k (suc m) = zeros (suc k) m
+
+    with_zeros : (k : ℕ) (ys : List ℤ) → first_far k (ys ++ replicate (16 - length xs) (pos 0)) ≡ first_far k ys
+    with_zeros k [] = zeros k (16 - length xs)
+    with_zeros k (y ∷ ys) = ap (cond (far y) (Some k)) (with_zeros (suc k) ys)
 
 -- where none is out of range all are in range
-pub none_far : (k : ℕ) (xs : List ℤ) → first_far k xs ≡ None → all_near xs ≡ true
+pub none_far : (xs : List ℤ) → position far xs ≡ None → all_near xs ≡ true
 unfolding all_near
-none_far k [] h = refl
-none_far k (x ∷ xs) h = let rest = none_far (suc k) xs in grind arith
-
--- at most sixteen numbers in range that sum to 0 have no fault
-pub no_fault : (xs : List ℤ) → length xs ≤ 16 → first_far 0 xs ≡ None → span_z (at_person xs) (length xs) ≡ pos 0 → fault xs ≡ None
-no_fault xs few near even = let small = le-ltb 16 (length xs) few in rw (small, near, even) refl
+none_far xs h = near_from 0 xs (first_far_position xs ∙ h)
+  where
+    near_from : (k : ℕ) (ys : List ℤ) → first_far k ys ≡ None → all_near ys ≡ true
+    near_from k [] e = refl
+    near_from k (y ∷ ys) e = let rest = near_from (suc k) ys in grind arith

@@ -1,8 +1,8 @@
 -- What holds of every value `Balances`, person by person.
-use Rattle.std.proofs.Common.{◌≡◌, ℕ, zero, suc, ◌+◌, ◌-◌, ◌≤◌, true, not, List, [], ◌∷◌, get_or, ℤ, pos, nat_abs, sym, ap, ◌∙◌, arith}
-use Rattle.std.proofs.lemmas.List.{get_or-drop}
+use Rattle.std.proofs.Common.{◌≡◌, ℕ, zero, suc, ◌-◌, ◌≤◌, true, not, List, [], ◌∷◌, ℤ, pos, nat_abs, sym, ap, ◌∙◌, arith}
 use Rattle.std.proofs.lemmas.Bool.{and_parts}
 use Rattle.std.proofs.lemmas.Bool.Decides.{nat_tests}
+use Rattle.std.proofs.lemmas.Grind.{common_steps}
 use Rattle.balances.specs.Even.{Even}
 use Rattle.balances.specs.Range.{most, far, all_near}
 use Rattle.balances.specs.Signed.{at_person, span_z}
@@ -10,7 +10,6 @@ use Rattle.balances.specs.View.{people_of, cents_of, sides_of}
 use Rattle.balances.specs.declared.sheet.Balances.{Balances}
 use Rattle.balances.proofs.Signs.{signed_even}
 use Rattle.balances.proofs.SpansZ.{span_z_pad}
-use Rattle.balances.proofs.Zeros.{zero_at}
 
 pub near_each : (xs : List ℤ) (i : ℕ) → all_near xs ≡ true → nat_abs (at_person xs i) ≤ most
 unfolding all_near
@@ -26,9 +25,8 @@ module _ (b : Balances) where
   -- somebody who is not there has 0
   pub absent_at : (i : ℕ) → people_of b ≤ i → cents_of b i ≡ pos 0
   absent_at i l =
-      let place : b.people + (i - b.people) ≡ i = omega arith in
-      ap (at_person b.cents) (sym place) ∙ sym (get_or-drop b.people b.cents (i - b.people) (pos 0))
-      ∙ ap (λ xs. get_or xs (i - b.people) (pos 0)) b.absent ∙ zero_at (16 - b.people) (i - b.people)
+      let zeros = ap (λ xs. at_person xs (i - b.people)) b.absent in
+      grind (arith, common_steps)
 
   -- the numbers of the people who are there sum to 0
   pub even_there : span_z (cents_of b) (people_of b) ≡ pos 0

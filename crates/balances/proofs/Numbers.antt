@@ -1,7 +1,6 @@
 -- The numbers of the people who are there are those of all, in range, and sum to 0.
-use Rattle.std.proofs.Common.{◌≡◌, ℕ, ◌≤◌, length, pos, nat_abs, sym, ap, ◌∙◌, inl, inr, arith, length-take}
-use Rattle.std.proofs.lemmas.List.{get_or_past, get_or-take}
-use Rattle.std.proofs.lemmas.Bool.{cases_lt}
+use Rattle.std.proofs.Common.{◌≡◌, ℕ, ◌≤◌, length, pos, nat_abs, ap, ◌∙◌, arith, length-take}
+use Rattle.std.proofs.lemmas.Grind.{common_steps}
 use Rattle.balances.specs.Range.{most}
 use Rattle.balances.specs.Signed.{at_person, span_z}
 use Rattle.balances.specs.View.{people_of, cents_of, numbers_of}
@@ -11,11 +10,7 @@ use Rattle.balances.proofs.Holds.{absent_at, even_there, near_at}
 module _ (b : Balances) where
   -- each person's number, 0 past the people
   pub numbers_at : (i : ℕ) → at_person (numbers_of b) i ≡ cents_of b i
-  numbers_at i =
-      elim (cases_lt i (people_of b)) [
-        | inl there ↦ get_or-take (people_of b) b.cents i (pos 0) there
-        | inr past ↦ get_or_past (numbers_of b) i (pos 0) (omega (arith, length-take (people_of b) b.cents)) ∙ sym (absent_at b i past)
-      ]
+  numbers_at i = let past = absent_at b i in grind (arith, common_steps)
 
   -- the same as one equation
   pub numbers_same : at_person (numbers_of b) ≡ cents_of b

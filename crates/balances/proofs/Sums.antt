@@ -1,9 +1,10 @@
 -- What the pass over a book ends with: balances of people who are there, which sum to 0.
-use Rattle.std.proofs.Common.{◌≡◌, ℕ, suc, ◌+◌, ◌-◌, ◌≤◌, true, not, List, [], ◌∷◌, length, drop, replicate, ℤ, pos, sym, refl, ap, ◌∙◌, inl, inr, arith}
-use Rattle.std.proofs.lemmas.List.{ext_get_or, get_or-drop, get_or_past, length-drop, length-replicate}
+use Rattle.std.proofs.Common.{◌≡◌, ℕ, suc, ◌+◌, ◌-◌, ◌≤◌, true, List, [], ◌∷◌, length, drop, replicate, ℤ, pos, sym, refl, ap, ◌∙◌, inl, inr, arith}
+use Rattle.std.proofs.lemmas.List.{ext_get_or, get_or_past}
 use Rattle.std.proofs.lemmas.Int.{ints}
-use Rattle.std.proofs.lemmas.Bool.{cases_lt, and_from}
+use Rattle.std.proofs.lemmas.Bool.{cases_lt}
 use Rattle.std.proofs.lemmas.Bool.Decides.{nat_tests}
+use Rattle.std.proofs.lemmas.Grind.{common_steps}
 use Rattle.shares.specs.Bill.{Bill, share}
 use Rattle.shares.specs.Promise.{SoundBill}
 use Rattle.shares.proofs.Persons.{share_past}
@@ -13,7 +14,7 @@ use Rattle.book.specs.declared.line.Entry.{Entry}
 use Rattle.book.specs.Ledger.{Line, Sound, none, a_bill, a_payment, a_return}
 use Rattle.balances.specs.Given.{gave, had, standing, given, gotten, owes, is_owed}
 use Rattle.balances.specs.Promise.{balances}
-use Rattle.balances.specs.Range.{most, far, all_near}
+use Rattle.balances.specs.Range.{most, all_near}
 use Rattle.balances.specs.Signed.{at_person, credit, debt, signed, span_z}
 use Rattle.balances.specs.Tally.{Bounded, balance_of}
 use Rattle.balances.proofs.Evens.{span_given_gotten}
@@ -21,7 +22,6 @@ use Rattle.balances.proofs.Signs.{difference_sides}
 use Rattle.balances.proofs.SpansZ.{span_z_less, span_z_pad, span_z_same}
 use Rattle.balances.proofs.Standing.{standing_drop_all}
 use Rattle.balances.proofs.Turns.{Running, rest_of}
-use Rattle.balances.proofs.Zeros.{zero_at}
 
 -- nobody gave or had anything who is not there
 bill_absent : (n i : ℕ) (b : Bill) → n ≤ i → SoundBill n b → share b i ≡ 0
@@ -46,15 +46,13 @@ rest_none ls k i l = omega (arith, ints, standing_drop_all (gave i) ls k l, stan
 pub near_from : (xs : List ℤ) → Bounded most xs → all_near xs ≡ true
 unfolding all_near
 near_from [] small = refl
-near_from (x ∷ xs) small =
-    let here = small 0 in
-    and_from (not (far x)) (all_near xs) (grind (arith, nat_tests)) (near_from xs (λ i. small (suc i)))
+near_from (x ∷ xs) small = let here = small 0 in let rest = near_from xs (λ i. small (suc i)) in grind (arith, nat_tests)
 
 -- numbers that are 0 from n on
 pub zeros_from : (xs : List ℤ) (n m : ℕ) → length xs ≡ n + m → ((i : ℕ) → n ≤ i → at_person xs i ≡ pos 0) → drop n xs ≡ replicate m (pos 0)
 zeros_from xs n m len nothing =
-    ext_get_or (pos 0) (drop n xs) (replicate m (pos 0)) (omega (arith, length-drop n xs, length-replicate m (pos 0)))
-    (λ i below. get_or-drop n xs i (pos 0) ∙ nothing (n + i) (omega arith) ∙ sym (zero_at m i))
+    ext_get_or (pos 0) (drop n xs) (replicate m (pos 0)) (grind (arith, common_steps))
+    (λ i below. let none = nothing (n + i) in grind (arith, common_steps))
 
 module _ (n : ℕ) (es : List Entry) (xs : List ℤ) (sound : Sound n (lines n es)) (few : n ≤ 16) (run : Running n es (length es) xs) where
   -- the numbers after the last line are the balances of everybody, there or not

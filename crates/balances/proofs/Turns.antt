@@ -1,9 +1,10 @@
 -- One turn of the pass over a book: a line that stands moves the numbers, any other leaves them.
-use Rattle.std.proofs.Common.{◌≡◌, ℕ, zero, suc, ◌+◌, ◌*◌, ◌<◌, ◌≤◌, Bool, true, false, List, [], ◌∷◌, length, get_or, take, drop, ℤ, pos, ◌+ℤ◌, ◌-ℤ◌, nat_abs, Some, None, Option, sym, refl, ap, ◌∙◌, inl, inr, arith}
+use Rattle.std.proofs.Common.{◌≡◌, ℕ, ◌+◌, ◌*◌, ◌<◌, ◌≤◌, Bool, true, false, List, [], length, get_or, take, drop, ℤ, pos, ◌+ℤ◌, ◌-ℤ◌, nat_abs, Some, None, Option, sym, refl, ap, ◌∙◌, inl, inr, arith}
 use Rattle.std.proofs.lemmas.List.{drop_all, get_or_past}
 use Rattle.std.proofs.lemmas.Int.{ints}
 use Rattle.std.proofs.lemmas.Bool.{cases_lt}
 use Rattle.std.proofs.lemmas.Bool.Decides.{nat_tests}
+use Rattle.std.proofs.lemmas.Option.{slice_get_cases}
 use Rattle.std.specs.List.{slice_get}
 use Rattle.shares.specs.Bill.{pick, total, billed, share}
 use Rattle.shares.proofs.Padding.{share_padded}
@@ -37,14 +38,10 @@ found : (t : Bool) (o : Option Entry) (e : Entry) → Some e ≡ pick t o None �
 found true o e h = (refl, h)
 found false o e h = grind arith
 
-not_found : (t : Bool) (o : Option Entry) → None ≡ pick t o None → (None ≡ o → ⊥) → t ≡ false
-not_found true o h there = absurd (there h)
-not_found false o h there = refl
-
-entry_there : (es : List Entry) (k : ℕ) → k < length es → None ≡ slice_get es k → ⊥
-entry_there [] k l h = omega arith
-entry_there (e ∷ es) zero l h = let z : ◌≡◌ {A = ℕ} 0 1 = cc in omega arith
-entry_there (e ∷ es) (suc k) l h = entry_there es k (omega arith) h
+-- a line that is not found does not stand
+not_found : (es : List Entry) (k : ℕ) (t : Bool) → k < length es → None ≡ pick t (slice_get es k) None → t ≡ false
+not_found es k true there h = elim (slice_get_cases es k).1 [ inl here ↦ cc (here.2) | inr past ↦ absurd (omega arith) ]
+not_found es k false there h = refl
 
 -- whoever a line of a book names is there
 pub named : (n : ℕ) (es : List Entry) (ws : List ℕ) (l : Line) → n ≤ 16 → follows n es ws l ≡ true → Named l
@@ -106,7 +103,7 @@ module _ (n : ℕ) (es : List Entry) (k : ℕ) (order : orderly n es ≡ true) (
 
   pub turn_skips : None ≡ standing_entry es k → (i : ℕ) → rest_of (lines n es) k i ≡ rest_of (lines n es) (k + 1) i
   turn_skips is i =
-      let off = not_found (stands_at es k) (slice_get es k) is (entry_there es k there) in
+      let off = not_found es k (stands_at es k) there is in
       let gives = step (gave i) false off in
       let gets = step (had i) false off in
       omega (arith, ints)

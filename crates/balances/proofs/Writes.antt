@@ -1,8 +1,8 @@
 -- Numbers of people as they are written over, one at a time.
-use Rattle.std.proofs.Common.{◌≡◌, ℕ, ◌+◌, ◌^◌, ◌<◌, ◌≤◌, eqb, List, length, set, ℤ, pos, ◌+ℤ◌, ◌-ℤ◌, nat_abs, sym, ap, ◌∙◌, inl, inr, arith, w64, to_z, of_z}
-use Rattle.std.proofs.lemmas.List.{get_or-set_same, get_or-set_other}
+use Rattle.std.proofs.Common.{◌≡◌, ℕ, ◌+◌, ◌^◌, ◌<◌, ◌≤◌, eqb, List, length, set, ℤ, pos, ◌+ℤ◌, ◌-ℤ◌, nat_abs, arith, w64, to_z, of_z}
 use Rattle.std.proofs.lemmas.Int.{ints}
-use Rattle.std.proofs.lemmas.Bool.{cases_eq, eq-eqb, ne_eqb}
+use Rattle.std.proofs.lemmas.Bool.Decides.{nat_tests}
+use Rattle.std.proofs.lemmas.Grind.{common_steps}
 use Rattle.shares.specs.Bill.{pick}
 use Rattle.balances.specs.Signed.{at_person}
 
@@ -22,37 +22,16 @@ difference_fits x y a small is few = omega (arith, ints)
 
 -- the numbers after person p's is written over
 pub at_written : (xs : List ℤ) (p i : ℕ) (v : ℤ) → p < length xs → at_person (set xs p v) i ≡ pick (eqb p i) v (at_person xs i)
-at_written xs p i v there =
-    elim (cases_eq p i) [
-      | inl same ↦
-          let test = eq-eqb p i same in
-          rw (test, ← same) (get_or-set_same xs p v (pos 0) there)
-      | inr other ↦
-          let test = ne_eqb p i other in
-          rw test (get_or-set_other xs p i v (pos 0) (λ e. other (sym e)))
-    ]
+at_written xs p i v there = grind (arith, common_steps)
 
 -- person p's number with z more
 pub at_moved : (xs : List ℤ) (p i : ℕ) (z v : ℤ) → p < length xs → v ≡ at_person xs p +ℤ z → at_person (set xs p v) i ≡ at_person xs i +ℤ pick (eqb p i) z (pos 0)
-at_moved xs p i z v there is =
-    elim (cases_eq p i) [
-      | inl same ↦
-          let test = eq-eqb p i same in
-          at_written xs p i v there ∙ rw (test, ← same) is
-      | inr other ↦
-          let test = ne_eqb p i other in
-          at_written xs p i v there ∙ rw test (omega (arith, ints))
-    ]
+at_moved xs p i z v there is = let at = at_written xs p i v there in grind (arith, ints, nat_tests)
 
 pub moved_bounded :
     (xs : List ℤ) (p i m : ℕ) (z v : ℤ) → p < length xs → v ≡ at_person xs p +ℤ z → nat_abs (at_person xs i) ≤ m →
     nat_abs (at_person (set xs p v) i) ≤ m + nat_abs z
-moved_bounded xs p i m z v there is small =
-    let at = at_moved xs p i z v there is in
-    elim (cases_eq p i) [
-      | inl same ↦ let test = eq-eqb p i same in let at' = rw test at at in omega (arith, ints)
-      | inr other ↦ let test = ne_eqb p i other in let at' = rw test at at in omega (arith, ints)
-    ]
+moved_bounded xs p i m z v there is small = let at = at_moved xs p i z v there is in grind (arith, ints, nat_tests)
 
 -- one number more is written over by f of its person, those after it stay as they were
 pub written_more :
@@ -60,10 +39,6 @@ pub written_more :
     ((k : ℕ) → i ≤ k → at_person xs k ≡ at_person ys k) →
     ((k : ℕ) → k < i + 1 → at_person (set xs i v) k ≡ f k) × ((k : ℕ) → i + 1 ≤ k → at_person (set xs i v) k ≡ at_person ys k)
 written_more f xs ys i v there is below above = (
-  λ k l.
-      elim (cases_eq i k) [
-        | inl same ↦ let test = eq-eqb i k same in at_written xs i k v there ∙ rw test (is ∙ ap f same)
-        | inr other ↦ let test = ne_eqb i k other in at_written xs i k v there ∙ rw test (below k (omega arith))
-      ],
-  λ k l. let test = ne_eqb i k (omega arith) in at_written xs i k v there ∙ rw test (above k (omega arith)),
+  λ k l. let at = at_written xs i k v there in grind (arith, nat_tests, below k),
+  λ k l. let at = at_written xs i k v there in grind (arith, nat_tests, above k),
 )

@@ -6,12 +6,12 @@ ghost use Rattle.balances.specs.Signed.{credit, debt};
 pub fn debt(cents: i64) -> u64
     ensures { result ≡ debt cents }
 {
-    if cents < 0 { cents.unsigned_abs() } else { 0 }
+    cents.min(0).unsigned_abs()
 }
 
 // What a person with this number of cents is owed.
 pub fn credit(cents: i64) -> u64
     ensures { result ≡ credit cents }
 {
-    if cents > 0 { cents.unsigned_abs() } else { 0 }
+    cents.max(0).unsigned_abs()
 }

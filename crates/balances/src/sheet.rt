@@ -9,6 +9,7 @@ pub mod tally;
 
 // A number of cents for each person, below 0 for who owes and above 0 for who is owed: all in range, 0 for those of
 // sixteen who are not there, and 0 all together.
+// An array beside a count: a `Vec` needs memory, for want of which neither `of` nor `from_cents` may fail.
 #[derive(Clone, Copy)]
 pub struct Balances {
     people: u8,

@@ -1,15 +1,13 @@
 // Balances of small books and of the largest, worked out by hand, and numbers from elsewhere.
 use crate::sheet::Balances;
-use crate::unbalanced::Unbalanced;
+use crate::unbalanced::Unbalanced::{self, NotEven, OutOfRange, TooMany};
 use book::ledger::Book;
 use std::test::Fail;
 
 // Each line of a book for three, and each person's balance after it.
 #[test]
 fn lines_taken_back(rt: HostRuntime) -> Result<(), Fail> {
-    let Ok(mut book) = Book::new(rt.alloc(), 3, 8) else {
-        return Err(Fail::new("no book"));
-    };
+    let mut book = Book::new(rt.alloc(), 3, 8)?;
     let table: [(&[u8], [i64; 3]); 4] = [
         // 100 paid by 0 for three: shares 33, 33, 34
         (&[1, 0, 100, 0, 0, 0, 1, 0, 1, 0, 1, 0], [67, -33, -34]),
@@ -20,14 +18,9 @@ fn lines_taken_back(rt: HostRuntime) -> Result<(), Fail> {
         (&[3, 1, 0], [0, 0, 0]),
     ];
     for (line, cents) in table {
-        assert!(rt; book.add(line).is_ok());
+        book.add(line)?;
         let balances = Balances::of(&book);
-        let found = [
-            balances.balance(0),
-            balances.balance(1),
-            balances.balance(2),
-        ];
-        assert_eq!(rt; found, cents);
+        assert_eq!(rt; [0, 1, 2].map(|person| balances.balance(person)), cents);
     }
     Ok(())
 }
@@ -35,9 +28,7 @@ fn lines_taken_back(rt: HostRuntime) -> Result<(), Fail> {
 // Payments made already; then 90 paid by 0 for three, 1 pays its 30, and 60 for itself alone: it stays as it was.
 #[test]
 fn payments_and_somebody_even(rt: HostRuntime) -> Result<(), Fail> {
-    let Ok(mut book) = Book::new(rt.alloc(), 3, 8) else {
-        return Err(Fail::new("no book"));
-    };
+    let mut book = Book::new(rt.alloc(), 3, 8)?;
     let table: [(&[u8], [i64; 3]); 5] = [
         (&[2, 1, 0, 10, 0, 0, 0], [-10, 10, 0]),
         (&[2, 0, 1, 10, 0, 0, 0], [0, 0, 0]),
@@ -46,29 +37,19 @@ fn payments_and_somebody_even(rt: HostRuntime) -> Result<(), Fail> {
         (&[1, 1, 60, 0, 0, 0, 0, 0, 7, 0, 0, 0], [30, 0, -30]),
     ];
     for (line, cents) in table {
-        assert!(rt; book.add(line).is_ok());
+        book.add(line)?;
         let balances = Balances::of(&book);
-        let found = [
-            balances.balance(0),
-            balances.balance(1),
-            balances.balance(2),
-        ];
-        assert_eq!(rt; found, cents);
+        assert_eq!(rt; [0, 1, 2].map(|person| balances.balance(person)), cents);
     }
     Ok(())
 }
 
 #[test]
 fn largest_book(rt: HostRuntime) -> Result<(), Fail> {
-    let Ok(mut book) = Book::new(rt.alloc(), 2, 4096) else {
-        return Err(Fail::new("no book"));
-    };
+    let mut book = Book::new(rt.alloc(), 2, 4096)?;
     for _ in 0..4096 {
         // 1,000,000,000 = 0x3b9aca00, paid by 0, weights 0 and 1
-        assert!(rt;
-            book.add(&[1, 0, 0x00, 0xca, 0x9a, 0x3b, 0, 0, 1, 0])
-                .is_ok()
-        );
+        book.add(&[1, 0, 0x00, 0xca, 0x9a, 0x3b, 0, 0, 1, 0])?;
     }
     let balances = Balances::of(&book);
     assert_eq!(rt; balances.people(), 2);
@@ -81,45 +62,31 @@ fn largest_book(rt: HostRuntime) -> Result<(), Fail> {
 
 const MOST: i64 = 1 << 48;
 
-// Numbers, and 0 where they are balances; else the fault's place in the order, and the person.
+// Numbers, and the fault in them; none where they are balances.
 #[test]
 fn faults(rt: HostRuntime) {
-    let table: [(&[i64], (u8, u8)); 8] = [
-        (&[], (0, 0)),
-        (&[MOST, -MOST], (0, 0)),
-        (&[0; 16], (0, 0)),
-        (&[0; 17], (1, 0)),
+    let table: [(&[i64], Option<Unbalanced>); 8] = [
+        (&[], None),
+        (&[MOST, -MOST], None),
+        (&[0; 16], None),
+        (&[0; 17], Some(TooMany)),
         // the first fault counts
-        (&[i64::MIN; 17], (1, 0)),
-        (&[1, MOST + 1, i64::MIN], (2, 1)),
-        (&[1, -MOST, -MOST - 1], (2, 2)),
-        (&[1, 0], (3, 0)),
+        (&[i64::MIN; 17], Some(TooMany)),
+        (&[1, MOST + 1, i64::MIN], Some(OutOfRange { person: 1 })),
+        (&[1, -MOST, -MOST - 1], Some(OutOfRange { person: 2 })),
+        (&[1, 0], Some(NotEven)),
     ];
-    for (cents, told) in table {
-        let fault = match Balances::from_cents(cents) {
-            Ok(_) => (0, 0),
-            Err(Unbalanced::TooMany) => (1, 0),
-            Err(Unbalanced::OutOfRange { person }) => (2, person),
-            Err(Unbalanced::NotEven) => (3, 0),
-        };
-        assert_eq!(rt; fault, told);
+    for (cents, fault) in table {
+        assert_eq!(rt; Balances::from_cents(cents).err(), fault);
     }
 }
 
 #[test]
 fn from_elsewhere(rt: HostRuntime) -> Result<(), Fail> {
-    let Ok(balances) = Balances::from_cents(&[57, -23, -34]) else {
-        return Err(Fail::new("they are even"));
-    };
+    let balances = Balances::from_cents(&[57, -23, -34])?;
     assert_eq!(rt; balances.people(), 3);
-    assert_eq!(rt;
-        [
-            balances.balance(0),
-            balances.balance(1),
-            balances.balance(2),
-            balances.balance(3),
-        ],
-        [57, -23, -34, 0]
-    );
+    assert_eq!(rt; balances.numbers(), &[57, -23, -34][..]);
+    let found = [0, 1, 2, 3].map(|person| balances.balance(person));
+    assert_eq!(rt; found, [57, -23, -34, 0]);
     Ok(())
 }

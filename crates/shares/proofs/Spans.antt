@@ -1,5 +1,5 @@
 -- Laws of sums over people.
-use Rattle.std.proofs.Common.{◌≡◌, ℕ, zero, suc, ◌+◌, ◌-◌, ◌<◌, ◌≤◌, eqb, ltb, refl, ap, inl, inr, arith}
+use Rattle.std.proofs.Common.{◌≡◌, ℕ, zero, suc, ◌+◌, ◌-◌, ◌<◌, ◌≤◌, eqb, ltb, refl, inl, inr, arith}
 use Rattle.std.proofs.lemmas.Bool.{cases_lt, lt-ltb}
 use Rattle.shares.specs.Bill.{pick}
 use Rattle.shares.specs.Span.{span}
@@ -33,16 +33,11 @@ pub span_more : (f : ℕ → ℕ) (n : ℕ) → span f (suc n) ≡ f n + span f 
 unfolding span
 span_more f n = refl
 
--- the last below n + 1
-here : (n i : ℕ) → i < suc n → n ≤ i → i ≡ n
-here n i l h = omega arith
-
 -- one person's part is no larger than the sum
 pub at_most_span : (f : ℕ → ℕ) (n i : ℕ) → i < n → f i ≤ span f n
 unfolding span
 at_most_span f zero i l = omega arith
-at_most_span f (suc n) i l =
-    elim (cases_lt i n) [ inl below ↦ omega (arith, at_most_span f n i below) | inr above ↦ omega (arith, ap f (here n i l above)) ]
+at_most_span f (suc n) i l = elim (cases_lt i n) [ inl below ↦ omega (arith, at_most_span f n i below) | inr above ↦ let last : i ≡ n = omega arith in rw last (omega arith) ]
 
 -- a sum of which one term counts
 pub span_one : (p a n : ℕ) → span (λ i. pick (eqb p i) a 0) n ≡ pick (ltb p n) a 0

@@ -1,17 +1,21 @@
 -- Laws of the total of a list and of its fronts.
-use Rattle.std.proofs.Common.{◌≡◌, ℕ, zero, suc, ◌+◌, ◌≤◌, List, [], ◌∷◌, get_or, take, drop, refl, ap, add-one, arith}
+use Rattle.std.proofs.Common.{◌≡◌, ℕ, zero, suc, ◌+◌, ◌≤◌, List, [], ◌∷◌, get_or, take, drop, sum, refl, ap, add-one, arith}
+use Rattle.std.proofs.lemmas.List.Recursion.{is_sum_by}
+use Rattle.std.proofs.lemmas.List.Sums.{sum_by-take-drop, sum_by-take-le}
 use Rattle.shares.specs.Bill.{total}
+
+-- the total is the library's sum
+pub total_sum : (xs : List ℕ) → total xs ≡ sum xs
+unfolding total
+total_sum xs = is_sum_by total (λ x. x) refl (λ x xs. refl) xs
 
 -- the front and the rest are the whole
 pub total_take_drop : (n : ℕ) (xs : List ℕ) → total (take n xs) + total (drop n xs) ≡ total xs
-unfolding total
-total_take_drop zero xs = omega arith
-total_take_drop (suc n) [] = refl
-total_take_drop (suc n) (x ∷ xs) = omega (arith, total_take_drop n xs)
+total_take_drop n xs = simp total_sum (sum_by-take-drop (λ x. x) xs n)
 
 -- a front has no more than the whole
 pub total_take_le : (n : ℕ) (xs : List ℕ) → total (take n xs) ≤ total xs
-total_take_le n xs = omega (arith, total_take_drop n xs)
+total_take_le n xs = simp total_sum (sum_by-take-le (λ x. x) xs n)
 
 front_more : (xs : List ℕ) (i : ℕ) → total (take (suc i) xs) ≡ total (take i xs) + get_or xs i 0
 unfolding total

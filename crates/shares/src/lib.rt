@@ -9,11 +9,7 @@ ghost use Rattle.shares.specs.Promise.{SharesAdd, ShareNear};
 fn total_weight(weights: &[u16; 16]) -> u32
     ensures { result ≡ total weights.now }
 {
-    let mut sum = 0;
-    for weight in weights {
-        sum += u32::from(*weight);
-    }
-    sum
+    weights.iter().map(|weight| u32::from(*weight)).sum()
 }
 
 // The cents of an amount that fall to a part of all weights, rounded down; 0 where all weights are 0.
@@ -35,6 +31,7 @@ pub fn shares_of(amount: u32, weights: &[u16; 16]) -> [u32; 16]
     let mut shares = [0; 16];
     let mut part = 0;
     let mut before = 0;
+    // by place: a proof knows nothing of what a loop over `shares.iter_mut().zip(weights)` writes
     for (person, weight) in weights.iter().enumerate() {
         part += u32::from(*weight);
         let up_to = falls_to(amount, part, all);

@@ -16,11 +16,7 @@ impl Balances {
     pub fn balance(&self, person: u8) -> i64
         ensures { result ≡ cents_of self.now person }
     {
-        if person < self.people {
-            self.cents[person as usize]
-        } else {
-            0
-        }
+        self.numbers().get(person as usize).copied().unwrap_or(0)
     }
 
     // The numbers of the people who are there, person 0 first.
@@ -28,6 +24,6 @@ impl Balances {
         ensures all { result.now ≡ numbers_of self.now }
         ensures each { length result.now ≡ people_of self.now }
     {
-        &self.cents[0..self.people as usize]
+        &self.cents[..self.people as usize]
     }
 }

@@ -1,16 +1,11 @@
--- The sum of a front of the weights grows by the next one; past the last the front is the whole.
+-- Sixteen weights fit, and their sum is their total.
 use Rattle.std.proofs.Common.{rules}
-use Rattle.std.proofs.lemmas.List.{take_all}
-use Rattle.shares.specs.Bill.{total}
-use Rattle.shares.proofs.Totals.{total_take_more}
+use Rattle.std.proofs.iter.runs.Sources.{sums}
+use Rattle.shares.proofs.Totals.{total_sum}
 use Rattle.shares.proofs.total_weight.Goals as goal
 
-pub loop-weight-init : goal.loop-weight-init
-unfolding total
-loop-weight-init c = search rules
-
-pub loop-weight-preserved : goal.loop-weight-preserved
-loop-weight-preserved c = search (rules, total_take_more)
+pub sum-requires-clause-fits : goal.sum-requires-clause-fits
+sum-requires-clause-fits c = search (rules, sums)
 
 pub returns : goal.returns
-returns c = search (rules, take_all)
+returns c = rw total_sum (search rules)
