@@ -1,9 +1,12 @@
 -- What crates above read off a book: how many lines and people it has, what holds of the line at a place, and whether it stands.
-use Rattle.std.proofs.Common.{◌≡◌, ℕ, zero, suc, ◌+◌, ◌<◌, ◌≤◌, true, not, List, [], ◌∷◌, ◌++◌, length, get_or, take, drop, Some, refl, append_assoc, add-one, arith}
-use Rattle.std.proofs.lemmas.List.{append-nil, length-map, length_push}
+use Rattle.std.proofs.Common.{◌≡◌, ℕ, zero, suc, ◌+◌, ◌<◌, ◌≤◌, true, false, not, ltb, List, [], ◌∷◌, ◌++◌, length, get_or, take, drop, Some, None, Option, Bor, vec_items, vec_len, sym, refl, ap, ◌∙◌, append_assoc, add-one, arith}
+use Rattle.std.proofs.lemmas.List.{append-nil, get_or-map, length-map, length_push}
 use Rattle.std.proofs.lemmas.Bool.{and_parts, lt-ltb}
+use Rattle.std.proofs.lemmas.Bool.Decides.{nat_tests}
+use Rattle.std.proofs.lemmas.Option.{slice_get_past, slice_get_read}
 use Rattle.std.specs.List.{slice_get}
-use Rattle.book.proofs.Marks.{returns_earlier}
+use Rattle.std.specs.Option.{is_some, IfSome, MatchOption}
+use Rattle.book.proofs.Marks.{returns_earlier, standing_at}
 use Rattle.book.proofs.Sound.{orderly_sound, read_taken}
 use Rattle.book.specs.Held.{taken, stands_at}
 use Rattle.book.specs.Ledger as ledger
@@ -12,13 +15,41 @@ use Rattle.book.specs.Reading.{read_line, lines}
 use Rattle.book.specs.View.{held}
 use Rattle.book.specs.declared.ledger.Book.{Book}
 use Rattle.book.specs.declared.line.Entry.{Entry}
+use Rattle.book.specs.declared.line.Kept.{Kept}
+
+-- the lines that a book holds are as many as it keeps
+pub held_length : (b : Book) → vec_len b.lines ≡ length (held b).entries
+held_length b = omega (arith, b.lines.ok.0, length-map (vec_items b.lines) (λ k. k.entry))
+
+-- what a look at the line of a number finds: none, or the entry at its place, marked by whether it stands
+pub found : (b : Book) (k : ℕ) (o : Option (Bor Kept)) → is_some o ≡ ltb k (length (vec_items b.lines)) → IfSome o (λ x. x.now ≡ get_or (vec_items b.lines) k x.now) →
+    MatchOption o
+    ((slice_get (held b).entries k ≡ None) × (stands_at (held b).entries k ≡ false))
+    (λ x. (slice_get (held b).entries k ≡ Some x.now.entry) × (stands_at (held b).entries k ≡ x.now.stands))
+found b k None there is =
+    let ks = vec_items b.lines in
+    let long = length-map ks (λ (x : Kept). x.entry) in
+    let past : length ks ≤ k = grind (arith, nat_tests) in
+    (slice_get_past (held b).entries k (omega arith), grind (arith, nat_tests))
+found b k (Some x) there is =
+    let ks = vec_items b.lines in
+    let es = (held b).entries in
+    let long = length-map ks (λ (y : Kept). y.entry) in
+    let here : k < length ks = grind (arith, nat_tests) in
+    let inside : ltb k (length es) ≡ true = lt-ltb k (length es) (omega arith) in
+    let entry : x.now.entry ≡ get_or es k x.now.entry = ap (λ (y : Kept). y.entry) is ∙ sym (get_or-map (λ (y : Kept). y.entry) ks k x.now x.now.entry here) in
+    let mark : x.now.stands ≡ not (taken es k) =
+    ap (λ (y : Kept). y.stands) is ∙ sym (get_or-map (λ (y : Kept). y.stands) ks k x.now x.now.stands here) ∙ ap (λ ms. get_or ms k x.now.stands) b.marked
+    ∙ standing_at es k x.now.stands (omega arith)
+    in
+    (slice_get_read es (length es) k x.now.entry refl (omega arith) entry, rw (inside, mark) refl)
 
 module _ (b : Book) where
   pub few_people : (held b).people ≤ 16
   few_people = b.crew.1
 
   pub few_lines : length (held b).entries ≤ 4096
-  few_lines = omega (arith, b.few, b.entries.ok.0)
+  few_lines = omega (arith, b.few, held_length b)
 
   pub in_order : orderly (held b).people (held b).entries ≡ true
   in_order = b.ordered

@@ -14,3 +14,10 @@ pub struct Entry {
     pub line: Line,
     pub weights: [u16; 16],
 }
+
+// A line that was taken, and whether it stands: no later line took it back.
+#[derive(Clone, Copy)]
+pub struct Kept {
+    pub entry: Entry,
+    pub stands: bool,
+}

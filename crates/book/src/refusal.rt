@@ -2,7 +2,10 @@
 ghost use Rattle.std.specs.Prelude.{◌≡◌, Some};
 ghost use Rattle.book.specs.Codes.{code};
 ghost use Rattle.book.specs.Words.{refused_at};
+ghost use Rattle.book.specs.declared.refusal.Refusal.TheVariants as variant;
 
+use std::alloc::AllocError;
+use std::error::Error;
 use std::fmt;
 
 #[derive(Clone, Copy, Debug, PartialEq, Eq)]
@@ -59,6 +62,15 @@ impl Refusal {
     }
 }
 
+// Memory that is wanting is room that is not there.
+impl From<AllocError> for Refusal {
+    ghost from_gives = { λ _ e. e ≡ variant.NoRoom };
+
+    fn from(_: AllocError) -> Self {
+        Self::NoRoom
+    }
+}
+
 // Its number and place in words, as `refused 7 at 6`.
 impl fmt::Display for Refusal {
     ghost output = { λ r. Some (refused_at (code r)) };
@@ -69,3 +81,5 @@ impl fmt::Display for Refusal {
         write!(f, "refused {number} at {place}")
     }
 }
+
+impl Error for Refusal {}
