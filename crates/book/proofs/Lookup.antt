@@ -8,7 +8,7 @@ use Rattle.std.specs.List.{slice_get}
 use Rattle.std.specs.Option.{is_some, IfSome, MatchOption}
 use Rattle.book.proofs.Marks.{returns_earlier, standing_at}
 use Rattle.book.proofs.Sound.{orderly_sound, read_taken}
-use Rattle.book.specs.Held.{taken, stands_at}
+use Rattle.book.specs.Held.{entries_of, marks_of, standing, taken, stands_at}
 use Rattle.book.specs.Ledger as ledger
 use Rattle.book.specs.Orderly.{follows, orderly_after, orderly}
 use Rattle.book.specs.Reading.{read_line, lines}
@@ -17,11 +17,30 @@ use Rattle.book.specs.declared.ledger.Book.{Book}
 use Rattle.book.specs.declared.line.Entry.{Entry}
 use Rattle.book.specs.declared.line.Kept.{Kept}
 
+-- lines that were taken, as many as their entries
+pub kept_length : (ks : List Kept) (es : List Entry) → entries_of ks ≡ es → length ks ≡ length es
+kept_length ks es entries = sym (length-map ks (λ (y : Kept). y.entry)) ∙ ap length entries
+
 -- the lines that a book holds are as many as it keeps
 pub held_length : (b : Book) → vec_len b.lines ≡ length (held b).entries
-held_length b = omega (arith, b.lines.ok.0, length-map (vec_items b.lines) (λ k. k.entry))
+held_length b = omega (arith, b.lines.ok.0, kept_length (vec_items b.lines) (held b).entries refl)
 
--- what a look at the line of a number finds: none, or the entry at its place, marked by whether it stands
+-- the line at a place is the entry there, marked by whether it stands
+pub kept_at : (ks : List Kept) (es : List Entry) (k : ℕ) (d x : Kept) → entries_of ks ≡ es → marks_of ks ≡ standing es → k < length ks → x ≡ get_or ks k d →
+    (slice_get es k ≡ Some x.entry) × (stands_at es k ≡ x.stands)
+kept_at ks es k d x entries marks here is =
+    let there : k < length es = omega (arith, kept_length ks es entries) in
+    let inside = lt-ltb k (length es) there in
+    let entry : x.entry ≡ get_or es k x.entry =
+    ap (λ (y : Kept). y.entry) is ∙ sym (get_or-map (λ (y : Kept). y.entry) ks k d x.entry here) ∙ ap (λ l. get_or l k x.entry) entries
+    in
+    let mark : x.stands ≡ not (taken es k) =
+    ap (λ (y : Kept). y.stands) is ∙ sym (get_or-map (λ (y : Kept). y.stands) ks k d x.stands here) ∙ ap (λ l. get_or l k x.stands) marks
+    ∙ standing_at es k x.stands there
+    in
+    (slice_get_read es (length es) k x.entry refl there entry, rw (inside, mark) refl)
+
+-- what a look at the line of a number finds: none, or the line at that place
 pub found : (b : Book) (k : ℕ) (o : Option (Bor Kept)) → is_some o ≡ ltb k (length (vec_items b.lines)) → IfSome o (λ x. x.now ≡ get_or (vec_items b.lines) k x.now) →
     MatchOption o
     ((slice_get (held b).entries k ≡ None) × (stands_at (held b).entries k ≡ false))
@@ -31,18 +50,7 @@ found b k None there is =
     let long = length-map ks (λ (x : Kept). x.entry) in
     let past : length ks ≤ k = grind (arith, nat_tests) in
     (slice_get_past (held b).entries k (omega arith), grind (arith, nat_tests))
-found b k (Some x) there is =
-    let ks = vec_items b.lines in
-    let es = (held b).entries in
-    let long = length-map ks (λ (y : Kept). y.entry) in
-    let here : k < length ks = grind (arith, nat_tests) in
-    let inside : ltb k (length es) ≡ true = lt-ltb k (length es) (omega arith) in
-    let entry : x.now.entry ≡ get_or es k x.now.entry = ap (λ (y : Kept). y.entry) is ∙ sym (get_or-map (λ (y : Kept). y.entry) ks k x.now x.now.entry here) in
-    let mark : x.now.stands ≡ not (taken es k) =
-    ap (λ (y : Kept). y.stands) is ∙ sym (get_or-map (λ (y : Kept). y.stands) ks k x.now x.now.stands here) ∙ ap (λ ms. get_or ms k x.now.stands) b.marked
-    ∙ standing_at es k x.now.stands (omega arith)
-    in
-    (slice_get_read es (length es) k x.now.entry refl (omega arith) entry, rw (inside, mark) refl)
+found b k (Some x) there is = kept_at (vec_items b.lines) (held b).entries k x.now x.now refl b.marked (grind (arith, nat_tests)) is
 
 module _ (b : Book) where
   pub few_people : (held b).people ≤ 16
