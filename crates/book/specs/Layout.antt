@@ -15,9 +15,13 @@ two_bytes bs i = byte bs i + byte bs (i + 1) * 256
 abbrev pub four_bytes : List ℕ → ℕ → ℕ
 four_bytes bs i = byte bs i + byte bs (i + 1) * 256 + byte bs (i + 2) * 65536 + byte bs (i + 3) * 16777216
 
+-- the kind that a byte names
+abbrev pub kind_named : ℕ → Option Kind
+kind_named b = cond (b == 1) (Some Bill) (cond (b == 2) (Some Payment) (cond (b == 3) (Some TakeBack) None))
+
 -- the first byte names the kind; an empty line has none
 abbrev pub kind_of : List ℕ → Option Kind
-kind_of bs = cond (byte bs 0 == 1) (Some Bill) (cond (byte bs 0 == 2) (Some Payment) (cond (byte bs 0 == 3) (Some TakeBack) None))
+kind_of bs = kind_named (byte bs 0)
 
 -- a bill: the payer, four bytes of amount, two of weight for each of n people; a payment: from, to, four bytes; a taking back: two bytes, a line's number
 abbrev pub length_of : ℕ → Kind → ℕ

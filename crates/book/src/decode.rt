@@ -40,12 +40,8 @@ pub(crate) fn decode(people: u8, bytes: &[u8]) -> Result<Entry, Refusal>
 pub(crate) fn kind_at_front(bytes: &[u8]) -> Option<Kind>
     ensures { result ≡ kind_of bytes.now }
 {
-    match bytes.first().copied().unwrap_or(0) {
-        1 => Some(Kind::Bill),
-        2 => Some(Kind::Payment),
-        3 => Some(Kind::TakeBack),
-        _ => None,
-    }
+    let first = *bytes.first()?;
+    Kind::try_from(first).ok()
 }
 
 // How many bytes a line of that kind has in a book for so many people.
