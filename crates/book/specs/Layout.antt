@@ -1,5 +1,5 @@
 -- How a line lies in its bytes: a kind, and then the fields of that kind. Numbers have their low byte first.
-use Rattle.std.specs.Prelude.{ℕ, ◌+◌, ◌-◌, ◌*◌, cond, List, [], ◌∷◌, ◌++◌, map, replicate, Some, None, Option, ◌==◌, slice_index}
+use Rattle.std.specs.Prelude.{ℕ, ◌+◌, ◌-◌, ◌*◌, cond, List, [], ◌∷◌, ◌++◌, map, replicate, Some, None, Option, ◌==◌, slice_index, slice_index_or}
 use Rattle.std.specs.List.{range_with_len}
 use Rattle.book.specs.declared.kind.Kind.{Kind}
 use Rattle.book.specs.declared.kind.Kind.TheVariants.{Bill, Payment, TakeBack}
@@ -54,6 +54,10 @@ weights_at n TakeBack = []
 -- the weights of n people, and 0 for the others of sixteen
 unfoldable pub weights_of : ℕ → List ℕ → List ℕ
 weights_of n bs = map (λ i. two_bytes bs (weight_at i)) (range_with_len 0 n) ++ replicate (16 - n) 0
+
+-- the weights that these pairs of bytes say, and 0 for the others of sixteen
+unfoldable pub weights_in : List (List ℕ) → List ℕ
+weights_in pairs = map (λ i. two_bytes (slice_index_or pairs i []) 0) (range_with_len 0 16)
 
 -- what the bytes of a line of that kind say
 abbrev pub entry_of : ℕ → List ℕ → Kind → Entry
