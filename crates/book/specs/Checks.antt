@@ -29,11 +29,18 @@ out_of_range bs i = four_bytes bs i == 0 || nat_lt 1000000000 (four_bytes bs i)
 abbrev pub too_heavy : List ℕ → ℕ → Bool
 too_heavy bs i = nat_lt 1000 (two_bytes bs i)
 
+-- a person that is among n, and an amount that is in range
+abbrev pub present : ℕ → ℕ → Option ℕ
+present n person = unless (nat_le n person) person
+
+abbrev pub payable : ℕ → Option ℕ
+payable amount = unless (amount == 0 || nat_lt 1000000000 amount) amount
+
 abbrev pub person_at : ℕ → List ℕ → ℕ → Option ℕ
-person_at n bs i = unless (stranger n bs i) (byte bs i)
+person_at n bs i = present n (byte bs i)
 
 abbrev pub amount_at : List ℕ → ℕ → Option ℕ
-amount_at bs i = unless (out_of_range bs i) (four_bytes bs i)
+amount_at bs i = payable (four_bytes bs i)
 
 abbrev pub heavy_at : ℕ → List ℕ → Option ℕ
 heavy_at n bs = first_at (too_heavy bs) (weights_at n kind.Bill)
@@ -51,13 +58,7 @@ abbrev pub clear : {B E : Type 0} → Option ℕ → (ℕ → E) → Result B E 
 clear None e r = r
 clear (Some i) e r = Err (e i)
 
--- the same of values that were read: a person among n, an amount, and what a bill and a payment of them are
-abbrev pub present : ℕ → ℕ → Option ℕ
-present n person = unless (nat_le n person) person
-
-abbrev pub payable : ℕ → Option ℕ
-payable amount = unless (amount == 0 || nat_lt 1000000000 amount) amount
-
+-- a bill and a payment of values that were read
 abbrev pub checked_bill : ℕ → ℕ → ℕ → List ℕ → Result Entry Refusal
 checked_bill n payer amount weights =
     asked (present n payer) (UnknownPerson 1)

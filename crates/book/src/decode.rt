@@ -55,6 +55,7 @@ pub(crate) fn kind_at_front(bytes: &[u8]) -> Option<Kind>
     Kind::try_from(first).ok()
 }
 
+// A bill of these values, or the first of its checks that refuses them.
 fn bill(people: u8, payer: u8, cents: u32, weights: [u16; 16]) -> Result<Entry, Refusal>
     ensures { result ≡ checked_bill people payer cents weights }
 {
@@ -76,6 +77,7 @@ fn bill(people: u8, payer: u8, cents: u32, weights: [u16; 16]) -> Result<Entry, 
     })
 }
 
+// A payment of these values, or the first of its checks that refuses them.
 fn payment(people: u8, from: u8, to: u8, cents: u32) -> Result<Entry, Refusal>
     ensures { result ≡ checked_payment people from to cents }
 {
@@ -111,7 +113,7 @@ fn amount(cents: u32) -> Option<u32>
     (1..=MAX_AMOUNT).contains(&cents).then_some(cents)
 }
 
-// The weight of each person, and 0 for those of sixteen who are not there.
+// The weight of each person, two bytes for each, and 0 for those of sixteen who are not there.
 fn weights(pairs: &[[u8; 2]]) -> [u16; 16]
     ensures { result ≡ weights_in pairs.now }
 {

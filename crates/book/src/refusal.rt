@@ -50,10 +50,10 @@ impl Refusal {
         ensures { result ≡ (code self).1 }
     {
         match self {
-            Refusal::WrongLength { found } => found,
-            Refusal::UnknownPerson { at } => at,
-            Refusal::AmountOutOfRange { at } => at,
-            Refusal::WeightTooLarge { at } => at,
+            Refusal::WrongLength { found: at }
+            | Refusal::UnknownPerson { at }
+            | Refusal::AmountOutOfRange { at }
+            | Refusal::WeightTooLarge { at } => at,
             Refusal::NoWeight => 6,
             Refusal::PaidToSelf => 2,
             Refusal::CannotTakeBack => 1,

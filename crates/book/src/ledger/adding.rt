@@ -23,7 +23,7 @@ impl Book {
     pub fn new(heap: Global, people: u8, room: usize) -> Result<Book, Refusal>
         ensures { Begins people room result }
     {
-        if people == 0 || people > MAX_PEOPLE {
+        if !(1..=MAX_PEOPLE).contains(&people) {
             return Err(Refusal::CrewSize);
         }
         Ok(Book {
@@ -53,15 +53,16 @@ impl Book {
     }
 
     // The refusal of a line that the input cuts short: whatever its bytes are, they are fewer than the line says.
+    #[tactic(auto, using(crate::proofs::Lookup::held_length), unfolding(crate::specs::Rows::rows_of_cut))]
     pub fn refuse_cut(&self, bytes: &[u8]) -> Refusal
         ensures { first_row rows_of_cut (held self.now) bytes.now ≡ Some (code result) }
     {
         if self.lines.len() >= self.room {
             return Refusal::NoRoom;
         }
-        let Some(_) = kind_at_front(bytes) else {
+        if kind_at_front(bytes).is_none() {
             return Refusal::UnknownKind;
-        };
+        }
         Refusal::WrongLength { found: bytes.len() }
     }
 
