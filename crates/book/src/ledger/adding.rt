@@ -20,6 +20,7 @@ const MAX_LINES: usize = 4096;
 
 impl Book {
     // An empty book for so many people, with room for so many lines.
+    #[tactic(auto, unfolding(crate::specs::Held::standing, crate::specs::Orderly::orderly_after))]
     pub fn new(heap: Global, people: u8, room: usize) -> Result<Book, Refusal>
         ensures { Begins people room result }
     {

@@ -1,17 +1,11 @@
-use Rattle.std.proofs.Common.{true, [], ◌∷◌, ◌++◌, sym, ap, ◌∙◌, subst, arith}
+use Rattle.std.proofs.Common.{true, [], ◌∷◌, ◌++◌, sym, ap, ◌∙◌, arith}
 use Rattle.std.proofs.lemmas.List.{map-append}
-use Rattle.book.proofs.Lookup.{held_length}
-use Rattle.book.proofs.Marks.{orderly_push, standing_push, within}
+use Rattle.book.proofs.Marks.{orderly_push, standing_push}
 use Rattle.book.proofs.ledger.Book.keep.Goals as goal
-use Rattle.book.specs.Held.{Within, entries_of, marks_of, standing, struck}
+use Rattle.book.specs.Held.{entries_of, marks_of, standing, struck}
 use Rattle.book.specs.Orderly.{orderly}
 use Rattle.book.specs.View.{held}
 use Rattle.book.specs.declared.line.Kept.{Kept}
-
-pub strike-requires : goal.strike-requires
-strike-requires c =
-    let b = c.args.self.now in
-    subst (Within c.args.entry.line) (sym (held_length b)) (within b.people (held b).entries c.args.entry.weights c.args.entry.line c.requires.fits)
 
 pub invariant_of-self : goal.invariant_of-self
 invariant_of-self c =
