@@ -47,6 +47,7 @@ impl Book {
     }
 
     // The lines that a book holds are in order: whoever pays or is paid is there, and each bill has a weight above 0.
+    #[tactic(auto, using(crate::proofs::Lookup::sound))]
     pub fn in_order(&self)
         ensures { Sound (held self.now).people (lines (held self.now).people (held self.now).entries) }
     {}
