@@ -120,18 +120,20 @@ after_six bs k =
     let on : 6 + (2 * k + 1) ≡ weight_at k + 1 = omega arith in
     omega (arith, get_or-drop 6 bs (2 * k) 0, get_or-drop 6 bs (2 * k + 1) 0, ap (λ i. get_or bs i 0) on)
 
+pub length_weights : (n : ℕ) (bs : List ℕ) → n ≤ 16 → length (weights_of n bs) ≡ 16
+unfolding weights_of
+length_weights n bs few =
+    let read = map (λ i. two_bytes bs (weight_at i)) (range_with_len 0 n) in
+    let long = length-map-range_with_len (λ i. two_bytes bs (weight_at i)) 0 n in
+    omega (arith, length-append read (replicate (16 - n) 0), length-replicate {A = ℕ} (16 - n) 0)
+
 -- pairs of bytes after the first six of a bill are its weights
 pub weights_read : (n : ℕ) (bs rest : List ℕ) → n ≤ 16 → rest ≡ drop 6 bs → length rest ≡ 2 * n → weights_in (first_chunks 2 (length rest / 2) rest) ≡ weights_of n bs
 unfolding weights_in weights_of
-weights_read n bs rest few is long = sym (fill_by_all (λ i. two_bytes (get_or (first_chunks 2 (length rest / 2) rest) i []) 0) (weights_of n bs) 16 0 all each)
+weights_read n bs rest few is long = sym (fill_by_all (λ i. two_bytes (get_or (first_chunks 2 (length rest / 2) rest) i []) 0) (weights_of n bs) 16 0 (length_weights n bs few) each)
   where
     read : List ℕ
     read = map (λ i. two_bytes bs (weight_at i)) (range_with_len 0 n)
-
-    all : length (read ++ replicate (16 - n) 0) ≡ 16
-    all =
-        omega
-        (arith, length-append read (replicate (16 - n) 0), length-replicate {A = ℕ} (16 - n) 0, length-map-range_with_len (λ i. two_bytes bs (weight_at i)) 0 n)
 
     each : (k : ℕ) → k < 16 → get_or (read ++ replicate (16 - n) 0) k 0 ≡ two_bytes (get_or (first_chunks 2 (length rest / 2) rest) k []) 0
     each k h =
