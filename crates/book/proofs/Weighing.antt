@@ -31,6 +31,7 @@ some_above true ws some =
     ne_eqb (total ws) 0 (λ e. omega (arith, total_next_le ws some.0))
 some_above false ws none = eq-eqb (total ws) 0 (total_none ws none)
 
+-- a look at one element more
 position_more : (p : ℕ → Bool) (x : ℕ) (xs : List ℕ) (b : Bool) → p x ≡ b → position p (x ∷ xs) ≡ cond b (Some 0) (option_map suc (position p xs))
 position_more p x xs true e = rw e (grind (arith, nat_tests))
 position_more p x xs false e = rw e (grind (arith, nat_tests))
@@ -45,6 +46,7 @@ one_on a true o = ap Some (omega arith)
 one_on a false None = refl
 one_on a false (Some i) = ap Some (omega arith)
 
+-- the first heavy weight among the bytes is that of the first person who has one
 heavy_from : (bs : List ℕ) (a n m : ℕ) →
     first_at (too_heavy bs) (map weight_at (range_with_len a n)) ≡
     option_map (λ i. weight_at (a + i)) (position (λ w. ltb 1000 w) (map (λ i. two_bytes bs (weight_at i)) (range_with_len a n) ++ replicate m 0))

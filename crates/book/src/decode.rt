@@ -14,7 +14,8 @@ const MAX_WEIGHT: u16 = 1_000;
 
 const NO_WEIGHTS: [u16; 16] = [0; 16];
 
-// The entry that the bytes say for so many people, or the refusal of what is wrong in them.
+// The entry that the bytes say for so many people, or the refusal of what is wrong in them. Each kind's pattern is as
+// long as its lines are.
 #[tactic(auto, unfolding(crate::specs::Checks::decoded))]
 pub(crate) fn decode(people: u8, bytes: &[u8]) -> Result<Entry, Refusal>
     requires { people ≤ 16 }
@@ -26,13 +27,9 @@ pub(crate) fn decode(people: u8, bytes: &[u8]) -> Result<Entry, Refusal>
     match (kind, bytes) {
         (Kind::Bill, &[_, payer, a, b, c, d, ref rest @ ..])
             if rest.len() == 2 * usize::from(people) => {
+            let cents = u32::from_le_bytes([a, b, c, d]);
             let (pairs, _) = rest.as_chunks();
-            bill(
-                people,
-                payer,
-                u32::from_le_bytes([a, b, c, d]),
-                weights(pairs),
-            )
+            bill(people, payer, cents, weights(pairs))
         }
         (Kind::Payment, &[_, from, to, a, b, c, d]) => {
             payment(people, from, to, u32::from_le_bytes([a, b, c, d]))

@@ -23,6 +23,6 @@ returns-in-Bill-len6-up c =
     c.weights.ensures ∙ ap weights_in c.as_chunks.ensures.front ∙ weights_read n bs rest c.requires all (omega (arith, c.from.ensures))
     in
     c.bill.ensures
-    ∙ ap (λ a. checked_bill n (byte bs 1) a c.weights.result) c.from_le_bytes.ensures
+    ∙ ap (λ a. checked_bill n (byte bs 1) a c.weights.result) c.from_le_bytes-cents.ensures
     ∙ ap (checked_bill n (byte bs 1) (four_bytes bs 2)) weights
     ∙ bill_by_values n bs ∙ decoded_bill n bs (sym c.in-Some.ensures ∙ ap Some c.in-Bill-len6-up.is-0) whole
