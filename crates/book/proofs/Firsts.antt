@@ -30,7 +30,7 @@ module _ (h : Held) (bs : List ℕ) (d : Row) where
   unfolding Found
   found_at r rs number place None none is on = let f = on (sym (passed_over r rs none) ∙ is) in (suc f.0, stops_later r rs f.0 place none f.1, f.2)
   found_at r rs number place (Some p) some is on =
-      let e : Some (r.number, p) ≡ Some (number, place) = rw some at is in
+      let e : ◌≡◌ {A = Option (ℕ × ℕ)} (Some (r.number, p)) (Some (number, place)) = rw some at is in
       let same_place : p ≡ place = grind arith in
       (0, stops_first r rs place (some ∙ ap Some same_place), grind arith)
 
@@ -48,7 +48,7 @@ module _ (h : Held) (bs : List ℕ) (d : Row) where
       (k : ℕ) → k < length (r ∷ rs) → (get_or (r ∷ rs) k d).applies h bs ≡ None
   none_applies_at r rs None none is on zero lt = none
   none_applies_at r rs None none is on (suc k) lt = on (sym (passed_over r rs none) ∙ is) k (omega arith)
-  none_applies_at r rs (Some p) some is on k lt = let e : Some (r.number, p) ≡ None = rw some at is in grind arith
+  none_applies_at r rs (Some p) some is on k lt = let e : ◌≡◌ {A = Option (ℕ × ℕ)} (Some (r.number, p)) None = rw some at is in grind arith
 
   none_applies : (rs : List Row) → first_row rs h bs ≡ None → (k : ℕ) → k < length rs → (get_or rs k d).applies h bs ≡ None
   none_applies [] is k lt = absurd (omega arith)

@@ -5,4 +5,4 @@ pub mod Lookup
 pub mod Marks
 pub mod Passed
 pub mod Sound
-pub mod Steps
+pub mod Weighing

@@ -4,6 +4,7 @@ use Rattle.std.proofs.lemmas.List.FromFn.{length-map-range_with_len, get_or-map-
 use Rattle.std.proofs.lemmas.List.{length_push, get_or_append_left, get_or_push, get_or-set_same, get_or-set_other, length-set, same_lists, append-nil}
 use Rattle.std.proofs.lemmas.Bool.{cases_eq, cases_lt, and_parts, ne_eqb, eq-eqb, lt-ltb}
 use Rattle.std.proofs.lemmas.Bool.Decides.{nat_tests}
+use Rattle.std.proofs.lemmas.Option.{slice_get_within}
 use Rattle.std.specs.List.{slice_get}
 use Rattle.book.specs.Held.{Within, takes, taken, standing, struck, is_plain, is_return, returnable, stands_at}
 use Rattle.book.specs.Orderly.{follows, orderly_after, orderly}
@@ -16,25 +17,17 @@ taken_push [] e k = grind arith
 taken_push (x ∷ es) e k = let ih = taken_push es e k in grind arith
 
 -- a plain line is there
-pub plain_there : (es : List Entry) (k : ℕ) → is_plain (slice_get es k) ≡ true → k < length es
+plain_there : (es : List Entry) (k : ℕ) → is_plain (slice_get es k) ≡ true → k < length es
 plain_there [] k h = grind arith
 plain_there (e ∷ es) zero h = omega arith
 plain_there (e ∷ es) (suc k) h = omega (arith, plain_there es k h)
 
-plain_line : (l : Line) → ((k : ℕ) → l ≡ TakeBack k → ⊥) → is_return l ≡ false
-plain_line (Bill payer amount) h = refl
-plain_line (Payment from to amount) h = refl
-plain_line (TakeBack k) h = absurd (h k refl)
-
--- a line that takes nothing back can be taken back while it stands
-pub plain_stands : (es : List Entry) (k : ℕ) (e : Entry) → Some e ≡ slice_get es k → ((j : ℕ) → e.line ≡ TakeBack j → ⊥) → stands_at es k ≡ returnable es k
-plain_stands es k e is h =
-    let plain : is_plain (slice_get es k) ≡ true = ap is_plain (sym is) ∙ ap not (plain_line e.line h) in
-    let there = lt-ltb k (length es) (plain_there es k plain) in
-    grind arith
+-- a line can be taken back while it stands, if it takes nothing back itself
+pub plain_stands : (es : List Entry) (k : ℕ) (e : Entry) → slice_get es k ≡ Some e → returnable es k ≡ (stands_at es k && not (is_return e.line))
+plain_stands es k e is = let there = lt-ltb k (length es) (slice_get_within es k e is) in rw (is, there) (grind arith)
 
 -- the line that a line takes back, where it may follow, is there
-pub within : (n : ℕ) (es : List Entry) (ws : List ℕ) (l : Line) → follows n es ws l ≡ true → Within l (length es)
+within : (n : ℕ) (es : List Entry) (ws : List ℕ) (l : Line) → follows n es ws l ≡ true → Within l (length es)
 within n es ws (Bill payer amount) f = tt
 within n es ws (Payment from to amount) f = tt
 within n es ws (TakeBack j) f = plain_there es j (and_parts (is_plain (slice_get es j)) (not (taken es j)) f).0

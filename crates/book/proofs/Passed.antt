@@ -3,10 +3,11 @@ use Rattle.std.proofs.Common.{◌≡◌, ℕ, zero, suc, ◌+◌, ◌-◌, ◌�
 use Rattle.shares.specs.Bill.{total}
 use Rattle.shares.proofs.Totals.{total_take_drop}
 use Rattle.std.proofs.lemmas.List.FromFn.{length-map-range_with_len}
-use Rattle.std.proofs.lemmas.List.{drop_at, length-append, length-replicate}
+use Rattle.std.proofs.lemmas.List.{drop_at}
 use Rattle.std.proofs.lemmas.Bool.Decides.{nat_tests}
 use Rattle.std.specs.List.{range_with_len}
 use Rattle.std.specs.Option.{option_map}
+use Rattle.book.proofs.Weighing.{length_weights}
 use Rattle.book.specs.Checks.{unless, asked, clear, first_at, stranger, out_of_range, too_heavy, heavy_at, of_kind, decoded}
 use Rattle.book.specs.Held.{Held, may_return}
 use Rattle.book.specs.Layout.{byte, two_bytes, four_bytes, kind_of, entry_of, length_of, weight_at, weights_of}
@@ -52,7 +53,7 @@ unfolding weights_of weighed
 weights_fit n bs few none some =
     let read = map (λ i. two_bytes bs (weight_at i)) (range_with_len 0 n) in
     let long = length-map-range_with_len (λ i. two_bytes bs (weight_at i)) 0 n in
-    let all : length (read ++ replicate (16 - n) 0) ≡ 16 = omega (arith, length-append read (replicate (16 - n) 0), length-replicate {A = ℕ} (16 - n) 0) in
+    let all : length (read ++ replicate (16 - n) 0) ≡ 16 = length_weights n bs few in
     let rest : total (drop n (read ++ replicate (16 - n) 0)) ≡ 0 = ap total (drop_at read (replicate (16 - n) 0) n long) ∙ total_zeros (16 - n) in
     let light-all = light_append read (replicate (16 - n) 0) (light_read bs 0 n none) (light_zeros (16 - n)) in
     let parts = total_take_drop n (read ++ replicate (16 - n) 0) in

@@ -1,7 +1,7 @@
 -- Each check of a line's bytes: it hands on its value or is answered by None, and a line is decoded by one after another.
-use Rattle.std.specs.Prelude.{ℕ, Bool, true, false, cond, ◌||◌, List, [], ◌∷◌, length, replicate, Some, None, Ok, Err, Option, Result, ◌==◌, nat_le, nat_lt}
+use Rattle.std.specs.Prelude.{ℕ, Bool, true, false, cond, ◌||◌, List, [], ◌∷◌, length, replicate, Some, None, Ok, Err, Option, Result, ◌==◌, nat_le, nat_lt, position}
 use Rattle.shares.specs.Bill.{total}
-use Rattle.book.specs.Layout.{byte, two_bytes, four_bytes, kind_of, length_of, weights_at, weights_of, entry_of}
+use Rattle.book.specs.Layout.{byte, two_bytes, four_bytes, kind_of, length_of, weight_at, weights_at, weights_of, entry_of}
 use Rattle.book.specs.declared.kind.Kind.{Kind}
 use Rattle.book.specs.declared.kind.Kind.TheVariants as kind
 use Rattle.book.specs.declared.line.Entry.{Entry}
@@ -29,11 +29,18 @@ out_of_range bs i = four_bytes bs i == 0 || nat_lt 1000000000 (four_bytes bs i)
 abbrev pub too_heavy : List ℕ → ℕ → Bool
 too_heavy bs i = nat_lt 1000 (two_bytes bs i)
 
+-- a person that is among n, and an amount that is in range
+abbrev pub present : ℕ → ℕ → Option ℕ
+present n person = unless (nat_le n person) person
+
+abbrev pub payable : ℕ → Option ℕ
+payable amount = unless (amount == 0 || nat_lt 1000000000 amount) amount
+
 abbrev pub person_at : ℕ → List ℕ → ℕ → Option ℕ
-person_at n bs i = unless (stranger n bs i) (byte bs i)
+person_at n bs i = present n (byte bs i)
 
 abbrev pub amount_at : List ℕ → ℕ → Option ℕ
-amount_at bs i = unless (out_of_range bs i) (four_bytes bs i)
+amount_at bs i = payable (four_bytes bs i)
 
 abbrev pub heavy_at : ℕ → List ℕ → Option ℕ
 heavy_at n bs = first_at (too_heavy bs) (weights_at n kind.Bill)
@@ -51,6 +58,25 @@ abbrev pub clear : {B E : Type 0} → Option ℕ → (ℕ → E) → Result B E 
 clear None e r = r
 clear (Some i) e r = Err (e i)
 
+-- a bill and a payment of values that were read
+abbrev pub checked_bill : ℕ → ℕ → ℕ → List ℕ → Result Entry Refusal
+checked_bill n payer amount weights =
+    asked (present n payer) (UnknownPerson 1)
+    (λ payer.
+    asked (payable amount) (AmountOutOfRange 2)
+    (λ amount.
+    clear (position (λ w. nat_lt 1000 w) weights) (λ i. WeightTooLarge (weight_at i))
+    (asked (some_weight weights) NoWeight (λ ws. Ok (record { line = Bill payer amount; weights = ws })))))
+
+abbrev pub checked_payment : ℕ → ℕ → ℕ → ℕ → Result Entry Refusal
+checked_payment n from to amount =
+    asked (present n from) (UnknownPerson 1)
+    (λ from.
+    asked (present n to) (UnknownPerson 2)
+    (λ to.
+    asked (payable amount) (AmountOutOfRange 3)
+    (λ amount. cond (from == to) (Err PaidToSelf) (Ok (record { line = Payment from to amount; weights = replicate 16 0 })))))
+
 abbrev pub bill_of : ℕ → List ℕ → Result Entry Refusal
 bill_of n bs =
     asked (person_at n bs 1) (UnknownPerson 1)
@@ -61,13 +87,7 @@ bill_of n bs =
     (asked (some_weight (weights_of n bs)) NoWeight (λ ws. Ok (record { line = Bill payer amount; weights = ws })))))
 
 abbrev pub payment_of : ℕ → List ℕ → Result Entry Refusal
-payment_of n bs =
-    asked (person_at n bs 1) (UnknownPerson 1)
-    (λ from.
-    asked (person_at n bs 2) (UnknownPerson 2)
-    (λ to.
-    asked (amount_at bs 3) (AmountOutOfRange 3)
-    (λ amount. cond (from == to) (Err PaidToSelf) (Ok (record { line = Payment from to amount; weights = replicate 16 0 })))))
+payment_of n bs = checked_payment n (byte bs 1) (byte bs 2) (four_bytes bs 3)
 
 abbrev pub of_kind : ℕ → List ℕ → Kind → Result Entry Refusal
 of_kind n bs kind.Bill = bill_of n bs

@@ -2,6 +2,7 @@
 use Rattle.std.specs.Prelude.{ℕ, ◌<◌, Bool, true, false, not, ◌&&◌, ◌||◌, List, [], ◌∷◌, map, length, Some, None, Option, ◌==◌, nat_lt, slice_set}
 use Rattle.std.specs.List.{slice_get, range_with_len}
 use Rattle.book.specs.declared.line.Entry.{Entry}
+use Rattle.book.specs.declared.line.Kept.{Kept}
 use Rattle.book.specs.declared.line.Line.{Line}
 use Rattle.book.specs.declared.line.Line.TheVariants.{Bill, Payment, TakeBack}
 
@@ -10,6 +11,13 @@ pub record Held : Type 0 where
   pub people : ℕ
   pub room : ℕ
   pub entries : List Entry
+
+-- the lines that were taken, and the marks of which of them stand
+abbrev pub entries_of : List Kept → List Entry
+entries_of ks = map (λ k. k.entry) ks
+
+abbrev pub marks_of : List Kept → List Bool
+marks_of ks = map (λ k. k.stands) ks
 
 -- does this line take back line k
 abbrev pub takes : Line → ℕ → Bool

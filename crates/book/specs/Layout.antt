@@ -1,5 +1,5 @@
 -- How a line lies in its bytes: a kind, and then the fields of that kind. Numbers have their low byte first.
-use Rattle.std.specs.Prelude.{ℕ, ◌+◌, ◌-◌, ◌*◌, cond, List, [], ◌∷◌, ◌++◌, map, replicate, Some, None, Option, ◌==◌, slice_index}
+use Rattle.std.specs.Prelude.{ℕ, ◌+◌, ◌-◌, ◌*◌, cond, List, [], ◌∷◌, ◌++◌, map, replicate, Some, None, Option, ◌==◌, slice_index, slice_index_or}
 use Rattle.std.specs.List.{range_with_len}
 use Rattle.book.specs.declared.kind.Kind.{Kind}
 use Rattle.book.specs.declared.kind.Kind.TheVariants.{Bill, Payment, TakeBack}
@@ -15,9 +15,13 @@ two_bytes bs i = byte bs i + byte bs (i + 1) * 256
 abbrev pub four_bytes : List ℕ → ℕ → ℕ
 four_bytes bs i = byte bs i + byte bs (i + 1) * 256 + byte bs (i + 2) * 65536 + byte bs (i + 3) * 16777216
 
+-- the kind that a byte names
+abbrev pub kind_named : ℕ → Option Kind
+kind_named b = cond (b == 1) (Some Bill) (cond (b == 2) (Some Payment) (cond (b == 3) (Some TakeBack) None))
+
 -- the first byte names the kind; an empty line has none
 abbrev pub kind_of : List ℕ → Option Kind
-kind_of bs = cond (byte bs 0 == 1) (Some Bill) (cond (byte bs 0 == 2) (Some Payment) (cond (byte bs 0 == 3) (Some TakeBack) None))
+kind_of bs = kind_named (byte bs 0)
 
 -- a bill: the payer, four bytes of amount, two of weight for each of n people; a payment: from, to, four bytes; a taking back: two bytes, a line's number
 abbrev pub length_of : ℕ → Kind → ℕ
@@ -50,6 +54,10 @@ weights_at n TakeBack = []
 -- the weights of n people, and 0 for the others of sixteen
 unfoldable pub weights_of : ℕ → List ℕ → List ℕ
 weights_of n bs = map (λ i. two_bytes bs (weight_at i)) (range_with_len 0 n) ++ replicate (16 - n) 0
+
+-- the weights that these pairs of bytes say, and 0 for the others of sixteen
+unfoldable pub weights_in : List (List ℕ) → List ℕ
+weights_in pairs = map (λ i. two_bytes (slice_index_or pairs i []) 0) (range_with_len 0 16)
 
 -- what the bytes of a line of that kind say
 abbrev pub entry_of : ℕ → List ℕ → Kind → Entry

@@ -1,11 +1,12 @@
 // From a line's bytes to its entry: each check hands on its value or returns the refusal.
-ghost use Rattle.std.specs.Prelude.{◌≡◌, ◌+◌, ◌*◌, ◌<◌, ◌≤◌, length};
-ghost use Rattle.book.specs.Checks.{person_at, amount_at, heavy_at, some_weight, bill_of, payment_of, decoded};
-ghost use Rattle.book.specs.Layout.{two_bytes, four_bytes, kind_of, length_of, weights_of};
+ghost use Rattle.std.specs.Prelude.{◌≡◌, ◌≤◌, nat_lt, position};
+ghost use Rattle.book.specs.Checks.{present, payable, some_weight, checked_bill, checked_payment, decoded};
+ghost use Rattle.book.specs.Layout.{kind_of, weights_in};
 
 use crate::kind::Kind;
 use crate::line::{Entry, Line};
 use crate::refusal::Refusal;
+use std::array;
 
 const MAX_AMOUNT: u32 = 1_000_000_000;
 
@@ -13,7 +14,9 @@ const MAX_WEIGHT: u16 = 1_000;
 
 const NO_WEIGHTS: [u16; 16] = [0; 16];
 
-// The entry that the bytes say for so many people, or the refusal of what is wrong in them.
+// The entry that the bytes say for so many people, or the refusal of what is wrong in them. Each kind's pattern is as
+// long as its lines are.
+#[tactic(auto, unfolding(crate::specs::Checks::decoded))]
 pub(crate) fn decode(people: u8, bytes: &[u8]) -> Result<Entry, Refusal>
     requires { people ≤ 16 }
     ensures { result ≡ decoded people bytes.now }
@@ -21,18 +24,23 @@ pub(crate) fn decode(people: u8, bytes: &[u8]) -> Result<Entry, Refusal>
     let Some(kind) = kind_at_front(bytes) else {
         return Err(Refusal::UnknownKind);
     };
-    if bytes.len() != line_length(people, kind) {
-        return Err(Refusal::WrongLength { found: bytes.len() });
-    }
-    match kind {
-        Kind::Bill => bill(people, bytes),
-        Kind::Payment => payment(people, bytes),
-        Kind::TakeBack => Ok(Entry {
+    match (kind, bytes) {
+        (Kind::Bill, &[_, payer, a, b, c, d, ref rest @ ..])
+            if rest.len() == 2 * usize::from(people) => {
+            let cents = u32::from_le_bytes([a, b, c, d]);
+            let (pairs, _) = rest.as_chunks();
+            bill(people, payer, cents, weights(pairs))
+        }
+        (Kind::Payment, &[_, from, to, a, b, c, d]) => {
+            payment(people, from, to, u32::from_le_bytes([a, b, c, d]))
+        }
+        (Kind::TakeBack, &[_, low, high]) => Ok(Entry {
             line: Line::TakeBack {
-                number: u16_at(bytes, 1),
+                number: u16::from_le_bytes([low, high]),
             },
             weights: NO_WEIGHTS,
         }),
+        _ => Err(Refusal::WrongLength { found: bytes.len() }),
     }
 }
 
@@ -40,40 +48,24 @@ pub(crate) fn decode(people: u8, bytes: &[u8]) -> Result<Entry, Refusal>
 pub(crate) fn kind_at_front(bytes: &[u8]) -> Option<Kind>
     ensures { result ≡ kind_of bytes.now }
 {
-    match bytes.first().copied().unwrap_or(0) {
-        1 => Some(Kind::Bill),
-        2 => Some(Kind::Payment),
-        3 => Some(Kind::TakeBack),
-        _ => None,
-    }
+    let first = *bytes.first()?;
+    Kind::try_from(first).ok()
 }
 
-// How many bytes a line of that kind has in a book for so many people.
-fn line_length(people: u8, kind: Kind) -> usize
-    ensures { result ≡ length_of people kind }
+// A bill of these values, or the first of its checks that refuses them.
+fn bill(people: u8, payer: u8, cents: u32, weights: [u16; 16]) -> Result<Entry, Refusal>
+    ensures { result ≡ checked_bill people payer cents weights }
 {
-    match kind {
-        Kind::Bill => 6 + 2 * people as usize,
-        Kind::Payment => 7,
-        Kind::TakeBack => 3,
-    }
-}
-
-fn bill(people: u8, bytes: &[u8]) -> Result<Entry, Refusal>
-    requires few { people ≤ 16 }
-    requires whole { length bytes.now ≡ 6 + 2 * people }
-    ensures { result ≡ bill_of people bytes.now }
-{
-    let Some(payer) = person(people, bytes, 1) else {
+    let Some(payer) = person(people, payer) else {
         return Err(Refusal::UnknownPerson { at: 1 });
     };
-    let Some(amount) = amount(bytes, 2) else {
+    let Some(amount) = amount(cents) else {
         return Err(Refusal::AmountOutOfRange { at: 2 });
     };
-    if let Some(at) = heavy_weight(people, bytes) {
-        return Err(Refusal::WeightTooLarge { at });
+    if let Some(person) = heavy_weight(&weights) {
+        return Err(Refusal::WeightTooLarge { at: 6 + 2 * person });
     }
-    let Some(weights) = some_weight(weights(people, bytes)) else {
+    let Some(weights) = some_weight(weights) else {
         return Err(Refusal::NoWeight);
     };
     Ok(Entry {
@@ -82,17 +74,17 @@ fn bill(people: u8, bytes: &[u8]) -> Result<Entry, Refusal>
     })
 }
 
-fn payment(people: u8, bytes: &[u8]) -> Result<Entry, Refusal>
-    requires { length bytes.now ≡ 7 }
-    ensures { result ≡ payment_of people bytes.now }
+// A payment of these values, or the first of its checks that refuses them.
+fn payment(people: u8, from: u8, to: u8, cents: u32) -> Result<Entry, Refusal>
+    ensures { result ≡ checked_payment people from to cents }
 {
-    let Some(from) = person(people, bytes, 1) else {
+    let Some(from) = person(people, from) else {
         return Err(Refusal::UnknownPerson { at: 1 });
     };
-    let Some(to) = person(people, bytes, 2) else {
+    let Some(to) = person(people, to) else {
         return Err(Refusal::UnknownPerson { at: 2 });
     };
-    let Some(amount) = amount(bytes, 3) else {
+    let Some(amount) = amount(cents) else {
         return Err(Refusal::AmountOutOfRange { at: 3 });
     };
     if from == to {
@@ -104,77 +96,39 @@ fn payment(people: u8, bytes: &[u8]) -> Result<Entry, Refusal>
     })
 }
 
-// The person at byte `at`, if it is there.
-fn person(people: u8, bytes: &[u8], at: usize) -> Option<u8>
-    requires { at < length bytes.now }
-    ensures { result ≡ person_at people bytes.now at }
+// The person, if it is one of so many.
+fn person(people: u8, person: u8) -> Option<u8>
+    ensures { result ≡ present people person }
 {
-    let person = bytes[at];
-    if person < people { Some(person) } else { None }
+    (person < people).then_some(person)
 }
 
-// The amount from byte `at` on, if it is 1 to 1,000,000,000 cents.
-fn amount(bytes: &[u8], at: usize) -> Option<u32>
-    requires { at + 3 < length bytes.now }
-    ensures { result ≡ amount_at bytes.now at }
+// The amount, if it is 1 to 1,000,000,000 cents.
+fn amount(cents: u32) -> Option<u32>
+    ensures { result ≡ payable cents }
 {
-    let amount = u32_at(bytes, at);
-    if amount == 0 || amount > MAX_AMOUNT {
-        None
-    } else {
-        Some(amount)
-    }
+    (1..=MAX_AMOUNT).contains(&cents).then_some(cents)
 }
 
-// Where the first weight above 1,000 begins, if there is one.
-fn heavy_weight(people: u8, bytes: &[u8]) -> Option<usize>
-    requires { length bytes.now ≡ 6 + 2 * people }
-    ensures { result ≡ heavy_at people bytes.now }
+// The weight of each person, two bytes for each, and 0 for those of sixteen who are not there.
+fn weights(pairs: &[[u8; 2]]) -> [u16; 16]
+    ensures { result ≡ weights_in pairs.now }
 {
-    for i in 0..people as usize {
-        let at = 6 + 2 * i;
-        if u16_at(bytes, at) > MAX_WEIGHT {
-            return Some(at);
-        }
-    }
-    None
+    array::from_fn(|person| pairs
+        .get(person)
+        .map_or(0, |pair| u16::from_le_bytes(*pair)))
 }
 
-// The weight of each person, and 0 for those of sixteen who are not there.
-fn weights(people: u8, bytes: &[u8]) -> [u16; 16]
-    requires few { people ≤ 16 }
-    requires whole { length bytes.now ≡ 6 + 2 * people }
-    ensures { result ≡ weights_of people bytes.now }
+// The first person whose weight is above 1,000, if there is one.
+fn heavy_weight(weights: &[u16; 16]) -> Option<usize>
+    ensures { result ≡ position (λ w. nat_lt 1000 w) weights.now }
 {
-    let mut weights = NO_WEIGHTS;
-    for i in 0..people as usize {
-        weights[i] = u16_at(bytes, 6 + 2 * i);
-    }
-    weights
+    weights.iter().position(|&weight| weight > MAX_WEIGHT)
 }
 
 // The weights, if one of them is above 0.
 fn some_weight(weights: [u16; 16]) -> Option<[u16; 16]>
     ensures { result ≡ some_weight weights }
 {
-    for w in weights {
-        if w > 0 {
-            return Some(weights);
-        }
-    }
-    None
-}
-
-fn u16_at(bytes: &[u8], at: usize) -> u16
-    requires { at + 1 < length bytes.now }
-    ensures { result ≡ two_bytes bytes.now at }
-{
-    u16::from_le_bytes([bytes[at], bytes[at + 1]])
-}
-
-fn u32_at(bytes: &[u8], at: usize) -> u32
-    requires { at + 3 < length bytes.now }
-    ensures { result ≡ four_bytes bytes.now at }
-{
-    u32::from_le_bytes([bytes[at], bytes[at + 1], bytes[at + 2], bytes[at + 3]])
+    weights.iter().any(|&weight| weight > 0).then_some(weights)
 }

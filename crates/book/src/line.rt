@@ -1,7 +1,7 @@
 // A line of the book, and the line with the weights of its bill.
 
 // What a line says. People are numbered from 0, amounts are cents, a line is taken back by its number.
-#[derive(Clone, Copy)]
+#[derive(Clone, Copy, Debug, PartialEq, Eq)]
 pub enum Line {
     Bill { payer: u8, amount: u32 },
     Payment { from: u8, to: u8, amount: u32 },
@@ -9,8 +9,15 @@ pub enum Line {
 }
 
 // A line and, beside it, a weight for each of sixteen people: all 0 where the line is no bill, and from the last person on.
-#[derive(Clone, Copy)]
+#[derive(Clone, Copy, Debug, PartialEq, Eq)]
 pub struct Entry {
     pub line: Line,
     pub weights: [u16; 16],
+}
+
+// A line that was taken, and whether it stands: no later line took it back.
+#[derive(Clone, Copy, Debug, PartialEq, Eq)]
+pub struct Kept {
+    pub entry: Entry,
+    pub stands: bool,
 }

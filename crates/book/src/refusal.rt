@@ -2,7 +2,10 @@
 ghost use Rattle.std.specs.Prelude.{◌≡◌, Some};
 ghost use Rattle.book.specs.Codes.{code};
 ghost use Rattle.book.specs.Words.{refused_at};
+ghost use Rattle.book.specs.declared.refusal.Refusal.TheVariants as variant;
 
+use std::alloc::AllocError;
+use std::error::Error;
 use std::fmt;
 
 #[derive(Clone, Copy, Debug, PartialEq, Eq)]
@@ -47,15 +50,24 @@ impl Refusal {
         ensures { result ≡ (code self).1 }
     {
         match self {
-            Refusal::WrongLength { found } => found,
-            Refusal::UnknownPerson { at } => at,
-            Refusal::AmountOutOfRange { at } => at,
-            Refusal::WeightTooLarge { at } => at,
+            Refusal::WrongLength { found: at }
+            | Refusal::UnknownPerson { at }
+            | Refusal::AmountOutOfRange { at }
+            | Refusal::WeightTooLarge { at } => at,
             Refusal::NoWeight => 6,
             Refusal::PaidToSelf => 2,
             Refusal::CannotTakeBack => 1,
             Refusal::CrewSize | Refusal::NoRoom | Refusal::UnknownKind | Refusal::TooManyLines => 0,
         }
+    }
+}
+
+// Memory that is wanting is room that is not there.
+impl From<AllocError> for Refusal {
+    ghost from_gives = { λ _ e. e ≡ variant.NoRoom };
+
+    fn from(_: AllocError) -> Self {
+        Self::NoRoom
     }
 }
 
@@ -69,3 +81,5 @@ impl fmt::Display for Refusal {
         write!(f, "refused {number} at {place}")
     }
 }
+
+impl Error for Refusal {}

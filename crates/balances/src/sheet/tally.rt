@@ -1,7 +1,7 @@
 // Balances of a book: one pass over its lines.
 ghost use Rattle.std.specs.Prelude.{◌≡◌, ◌*◌};
 ghost use Rattle.balances.specs.Range.{most};
-ghost use Rattle.balances.specs.Tally.{Bounded, Counted, Named, after_line, less_shares, standing_entry, whole_line};
+ghost use Rattle.balances.specs.Tally.{Bounded, Counted, Named, after_line, less_shares, whole_line};
 ghost use Rattle.book.specs.View.{held};
 
 use crate::sheet::Balances;
@@ -15,26 +15,15 @@ impl Balances {
         ensures { Counted (held book.now) result }
     {
         let mut cents = [0; 16];
-        for number in 0..book.len() {
-            if let Some(entry) = standing_entry(book, number) {
-                count_line(&mut cents, entry);
+        for kept in book.lines() {
+            if kept.stands {
+                count_line(&mut cents, kept.entry);
             }
         }
         Balances {
             people: book.people(),
             cents,
         }
-    }
-}
-
-// The line of that number, if it stands.
-fn standing_entry(book: &Book, number: usize) -> Option<Entry>
-    ensures { result ≡ standing_entry (held book.now).entries number }
-{
-    if book.stands(number) {
-        book.entry(number)
-    } else {
-        None
     }
 }
 

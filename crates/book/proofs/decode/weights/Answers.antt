@@ -1,13 +1,12 @@
-use Rattle.std.proofs.Common.{◌≡◌, set, ap, ◌∙◌, arith}
-use Rattle.book.proofs.Steps.{written_more}
+use Rattle.std.proofs.Common.{get_or, [], arith, rules}
+use Rattle.std.proofs.lemmas.List.FromFn.{fill_by_all}
+use Rattle.book.proofs.Weighing.{from_fn_at}
 use Rattle.book.proofs.decode.weights.Goals as goal
-use Rattle.book.specs.Layout.{two_bytes, weight_at, weights_of}
-
-pub loop-i-preserved : goal.loop-i-preserved
-loop-i-preserved c =
-    ap (λ ws. set ws c.loop-i.i c.u16_at.result) c.loop-i.invariant
-    ∙ written_more (λ i. two_bytes c.args.bytes.now (weight_at i)) 16 c.loop-i.i c.u16_at.result (omega arith) c.u16_at.ensures
+use Rattle.book.specs.Layout.{two_bytes, weights_in}
 
 pub returns : goal.returns
-unfolding weights_of
-returns c = let all : c.loop-i.i ≡ c.args.people = omega arith in rw all at c.loop-i.invariant
+unfolding weights_in
+returns c =
+    let made = c.from_fn.ensures.items in
+    let at = from_fn_at _ (λ p k. two_bytes (get_or p.0.now k []) 0) (λ p q k y called. (search rules, search rules)) _ c.from_fn.result 0 16 made.each in
+    fill_by_all (λ k. two_bytes (get_or c.args.pairs.now k []) 0) c.from_fn.result 16 0 made.long (λ k h. at k 0 (omega arith) h)
