@@ -5,6 +5,9 @@ ghost use Rattle.std.specs.Prelude.{◌≡◌, ℕ, ◌≤◌};
 ghost use Rattle.shares.specs.Bill.{total, up_to, billed, all_shares};
 ghost use Rattle.shares.specs.Promise.{SharesAdd, ShareNear};
 
+// A crew is no larger; tables by person have so many entries.
+pub const MAX_PEOPLE: usize = 16;
+
 // All weights together.
 fn total_weight(weights: &[u16; 16]) -> u32
     ensures { result ≡ total weights.now }

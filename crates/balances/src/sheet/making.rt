@@ -7,8 +7,7 @@ ghost use Rattle.balances.specs.declared.unbalanced.Unbalanced.TheVariants.{TooM
 
 use crate::sheet::Balances;
 use crate::unbalanced::Unbalanced;
-
-const MAX_PEOPLE: usize = 16;
+use shares::MAX_PEOPLE;
 
 const MAX_CENTS: u64 = 1 << 48;
 

@@ -12,9 +12,8 @@ use crate::decode::{decode, kind_at_front};
 use crate::ledger::Book;
 use crate::line::{Entry, Kept, Line};
 use crate::refusal::Refusal;
+use shares::MAX_PEOPLE;
 use std::alloc::Global;
-
-const MAX_PEOPLE: u8 = 16;
 
 const MAX_LINES: usize = 4096;
 
@@ -24,7 +23,7 @@ impl Book {
     pub fn new(heap: Global, people: u8, room: usize) -> Result<Book, Refusal>
         ensures { Begins people room result }
     {
-        if !(1..=MAX_PEOPLE).contains(&people) {
+        if !(1..=MAX_PEOPLE).contains(&usize::from(people)) {
             return Err(Refusal::CrewSize);
         }
         Ok(Book {
