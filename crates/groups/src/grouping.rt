@@ -25,11 +25,6 @@ pub fn group_people(
         (λ e. Refused (too_short (people_of balances.now) sums.old counts.old) e
         × Kept sums.old sums.new counts.old counts.new) }
 {
-    if let Err(short) = room(balances, sums, counts) {
-        return Err(Ungrouped::Short(short));
-    }
-    match group_numbers(heap, balances.numbers(), sums, counts) {
-        Ok(groups) => Ok(groups),
-        Err(_) => Err(Ungrouped::Memory),
-    }
+    room(balances, sums, counts)?;
+    Ok(group_numbers(heap, balances.numbers(), sums, counts)?)
 }

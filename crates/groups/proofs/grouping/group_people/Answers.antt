@@ -9,7 +9,7 @@ group_numbers-requires c =
     let b = c.args.balances.now in
     let xs = c.numbers.result.now in
     let is = c.numbers.ensures in
-    let space = crew_room b xs is.all is.each c.args.sums.now c.args.counts.now c.in_default.ensures in
+    let space = crew_room b xs is.all is.each c.args.sums.now c.args.counts.now c.in_ok-room.ensures in
     record {
       few = crew_few b xs is.all is.each;
       moderate = crew_moderate b xs is.all is.each;
@@ -18,12 +18,12 @@ group_numbers-requires c =
       room_counts = space.1;
     }
 
-pub returns-in-Ok : goal.returns-in-Ok
-returns-in-Ok c =
+pub returns : goal.returns
+returns c =
     let is = c.numbers.ensures in
     let then = c.group_numbers.new in (
-      c.in_default.ensures,
+      c.in_ok-room.ensures,
       of_crew c.args.balances.now c.numbers.result.now is.all is.each
-          (λ f n. Made f n c.args.sums.now then.sums c.args.counts.now then.counts (vec_items c.in-Ok.groups))
-          c.in-Ok.ensures,
+          (λ f n. Made f n c.args.sums.now then.sums c.args.counts.now then.counts (vec_items c.in_ok-group_numbers.field-0))
+          c.in_ok-group_numbers.ensures,
     )
