@@ -5,8 +5,9 @@ ghost use Rattle.groups.specs.Made.{Made, Refused};
 ghost use Rattle.groups.specs.Shorts.{too_short};
 ghost use Rattle.groups.specs.Tables.{Kept};
 
+use crate::crew::Crew;
 use crate::filling::room;
-use crate::fixing::group_numbers;
+use crate::fixing::Tables;
 use crate::ungrouped::Ungrouped;
 use balances::sheet::Balances;
 use std::alloc::Global;
@@ -26,5 +27,10 @@ pub fn group_people(
         × Kept sums.old sums.new counts.old counts.new) }
 {
     room(balances, sums, counts)?;
-    Ok(group_numbers(heap, balances.numbers(), sums, counts)?)
+    // memory for the groups is reserved before the first write
+    let crew = Crew::of(balances);
+    let mut groups = Vec::with_capacity(heap, crew.people() as usize)?;
+    crew.fill(sums, counts);
+    Tables { crew, sums, counts }.fix(crew.open_people(), &mut groups);
+    Ok(groups)
 }

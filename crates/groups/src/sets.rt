@@ -1,5 +1,5 @@
 // Sets of at most sixteen people as the bits of a number.
-ghost use Rattle.std.specs.Prelude.{◌≡◌, ◌^◌, ◌<◌, ◌≤◌, true};
+ghost use Rattle.std.specs.Prelude.{◌≡◌, ℕ, ◌^◌, ◌<◌, true};
 ghost use Rattle.groups.specs.Sets.{is_in, smallest, without};
 
 // Is the person in the set? Nobody from 32 on is.
@@ -26,21 +26,18 @@ pub(crate) fn take_out(set: u32, i: u32) -> u32
     set - (1 << i)
 }
 
-// The smallest person of a set of `n` people.
-pub(crate) fn lowest(n: u32, set: u32) -> u32
-    requires few { n ≤ 32 }
-    requires some { 0 < set }
-    requires small { set < 2 ^ n }
-    ensures { result ≡ smallest n set }
+// The smallest person of a set, of however many people.
+pub(crate) fn lowest(set: u32) -> u32
+    requires { 0 < set }
+    ensures { (n : ℕ) → set < 2 ^ n → result ≡ smallest n set }
 {
     set.trailing_zeros()
 }
 
 // The set without its smallest person, by a mask.
-pub(crate) fn without_lowest(n: u32, set: u32) -> u32
-    requires some { 0 < set }
-    requires small { set < 2 ^ n }
-    ensures { result ≡ without set (smallest n set) }
+pub(crate) fn without_lowest(set: u32) -> u32
+    requires { 0 < set }
+    ensures { (n : ℕ) → set < 2 ^ n → result ≡ without set (smallest n set) }
 {
     set & (set - 1)
 }

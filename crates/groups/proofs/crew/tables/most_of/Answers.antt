@@ -2,8 +2,8 @@
 use Rattle.std.proofs.Common.{sym, refl, ◌∙◌, add-one, arith}
 use Rattle.groups.proofs.CountLaws.{most_no, most_yes}
 use Rattle.groups.proofs.SetLaws.{out_less}
-use Rattle.groups.proofs.tables.most_of.Goals as goal
-use Rattle.groups.proofs.tables.most_of.Goals.{else-contains, then-contains}
+use Rattle.groups.proofs.crew.tables.most_of.Goals as goal
+use Rattle.groups.proofs.crew.tables.most_of.Goals.{else-contains, then-contains}
 use Rattle.groups.specs.Counts.{most}
 
 pub loop-i-init : goal.loop-i-init
