@@ -7,7 +7,7 @@ ghost use Rattle.groups.specs.Signs.{AllOpen};
 ghost use Rattle.groups.specs.Tables.{HasCounts, HasSums, set_sum};
 
 use crate::crew::Crew;
-use crate::sets::without_lowest;
+use crate::sets::{Subsets, without_lowest};
 
 // The tables of a crew, filled.
 #[derive(Drop)]
@@ -41,17 +41,13 @@ impl<'a> Tables<'a> {
         ensures { result ≡ chosen (at_person self.now.crew.balances.now) (length self.now.crew.balances.now)
             self.now.counts.now left }
     {
-        let others = without_lowest(left);
-        let mut rest = others;
-        'rests: loop {
-            if self.reaches(left, left - rest) {
-                return left - rest;
+        for rest in Subsets::of(without_lowest(left)) {
+            let part = left - rest;
+            if self.reaches(left, part) {
+                return part;
             }
-            if rest == 0 {
-                return left + 1;
-            }
-            rest = (rest - 1) & others;
         }
+        left + 1
     }
 
     // Adds the groups of the people left, the group of the smallest person first, then those of the people whom it leaves.

@@ -1,6 +1,7 @@
 // Sets of at most sixteen people as the bits of a number.
-ghost use Rattle.std.specs.Prelude.{◌≡◌, ℕ, ◌^◌, ◌<◌, true};
-ghost use Rattle.groups.specs.Sets.{is_in, smallest, without};
+ghost use Rattle.std.specs.Prelude.{◌≡◌, ℕ, ◌+◌, ◌^◌, ◌<◌, true, MatchOption};
+ghost use Rattle.std.specs.Iterator.{at_most};
+ghost use Rattle.groups.specs.Sets.{is_in, smallest, subset_below, without};
 
 // Is the person in the set? Nobody from 32 on is.
 pub fn has_person(set: u32, person: u8) -> bool
@@ -40,4 +41,40 @@ pub(crate) fn without_lowest(set: u32) -> u32
     ensures { (n : ℕ) → set < 2 ^ n → result ≡ without set (smallest n set) }
 {
     set & (set - 1)
+}
+
+// The subsets of a set that are less than `below`, the largest number first.
+#[derive(Drop)]
+pub(crate) struct Subsets {
+    set: u32,
+    below: u32,
+}
+
+impl Subsets {
+    // All of them, the set itself first.
+    pub(crate) fn of(set: u32) -> Subsets
+        requires { set < u32.MAX }
+        ensures whole { result.set ≡ set }
+        ensures all { result.below ≡ set + 1 }
+    {
+        Subsets {
+            set,
+            below: set + 1,
+        }
+    }
+}
+
+impl Iterator for Subsets {
+    type Item = u32;
+
+    ghost next_gives = { λ before given after. (given ≡ subset_below before.set before.below)
+        × MatchOption given (after ≡ before) (λ subset. after ≡ record before { below = subset }) };
+
+    ghost remaining = { λ left. at_most left.below };
+
+    fn next(&mut self) -> Option<u32> {
+        let under = self.below.checked_sub(1)?;
+        self.below = under & self.set;
+        Some(self.below)
+    }
 }
