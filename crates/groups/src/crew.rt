@@ -1,12 +1,12 @@
 // The balances of a crew, lent, with what always holds of them.
-ghost use Rattle.std.specs.Prelude.{◌≡◌, ◌^◌, ◌≤◌, length, pos};
+ghost use Rattle.std.specs.Prelude.{◌≡◌, ◌^◌, ◌<◌, ◌≤◌, length, pos};
 ghost use Rattle.balances.specs.Signed.{at_person};
 ghost use Rattle.balances.specs.View.{numbers_of, people_of};
 ghost use Rattle.groups.specs.Sets.{everyone};
 ghost use Rattle.groups.specs.Signs.{Moderate, open_of};
 ghost use Rattle.groups.specs.Tables.{set_sum};
 
-use crate::sets::contains;
+use crate::sets::People;
 use balances::sheet::Balances;
 
 pub(crate) mod tables;
@@ -60,13 +60,12 @@ impl<'a> Crew<'a> {
 
     // The balances of the people of a set together, worked out from nothing.
     pub(crate) fn sum_of(&self, set: u32) -> i64
+        requires { set < 2 ^ length self.now.balances.now }
         ensures { result ≡ set_sum self.now.balances.now set }
     {
         let mut sum: i64 = 0;
-        for (i, x) in self.balances.iter().enumerate() {
-            if contains(set, i as u32) {
-                sum += *x;
-            }
+        for person in People(set) {
+            sum += self.balances[person as usize];
         }
         sum
     }

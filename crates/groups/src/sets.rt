@@ -43,6 +43,28 @@ pub(crate) fn without_lowest(set: u32) -> u32
     set & (set - 1)
 }
 
+// The people of a set who are left, the smallest first.
+#[derive(Drop)]
+pub(crate) struct People(pub(crate) u32);
+
+impl Iterator for People {
+    type Item = u32;
+
+    ghost next_gives = { λ before given after. MatchOption given ((before.0 ≡ 0) × (after ≡ before))
+        (λ person. (is_in before.0 person ≡ true) × (person ≡ smallest 32 before.0) × (after.0 ≡ without before.0 person)) };
+
+    ghost remaining = { λ people. at_most people.0 };
+
+    fn next(&mut self) -> Option<u32> {
+        let set = self.0;
+        if set == 0 {
+            return None;
+        }
+        self.0 = without_lowest(set);
+        Some(lowest(set))
+    }
+}
+
 // The subsets of a set that are less than `below`, the largest number first.
 #[derive(Drop)]
 pub(crate) struct Subsets {

@@ -5,19 +5,16 @@ ghost use Rattle.balances.specs.Signed.{at_person};
 ghost use Rattle.groups.specs.Tables.{Written, set_sum};
 
 use crate::crew::Crew;
-use crate::sets::{contains, lowest, take_out, without_lowest};
+use crate::sets::{People, lowest, take_out, without_lowest};
 
-// The greatest count of the set with one of its `n` people taken out.
-pub(crate) fn most_of(counts: &[u8], n: u32, set: u32) -> u8
-    requires few { n ≤ 16 }
-    requires room { set ≤ length counts.now }
-    ensures { result ≡ most counts.now set n }
+// The greatest count of the set with one of its people taken out.
+pub(crate) fn most_of(counts: &[u8], set: u32) -> u8
+    requires { set ≤ length counts.now }
+    ensures { (n : ℕ) → set < 2 ^ n → result ≡ most counts.now set n }
 {
     let mut best: u8 = 0;
-    for i in 0..n {
-        if contains(set, i) {
-            best = best.max(counts[take_out(set, i) as usize]);
-        }
+    for person in People(set) {
+        best = best.max(counts[take_out(set, person) as usize]);
     }
     best
 }
@@ -42,7 +39,7 @@ impl<'a> Crew<'a> {
         } else if closed {
             counts[rest] + 1
         } else {
-            most_of(counts, self.people(), set)
+            most_of(counts, set)
         }
     }
 

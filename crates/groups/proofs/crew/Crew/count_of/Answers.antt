@@ -41,5 +41,6 @@ returns-else-closed c =
     let n = length bs in
     let even = open_bits (get_or bs c.lowest.result (pos 0)) (search rules) c.if-even.false in
     let closed = open_bits c.args.sum c.ranges.sum c.if-closed.false in
+    let most = c.most_of.ensures n c.requires.small in
     let e = counted_most (at_person bs) n c.args.counts.now c.args.set (omega arith) (rw (c.lowest.ensures n c.requires.small) at even)
     (rw c.requires.summed at closed) in cc

@@ -1,33 +1,49 @@
--- One person more adds its balance if it is in the set, and sixteen balances fit.
-use Rattle.std.proofs.Common.{◌≡◌, ◌^◌, length, refl, arith}
+-- Each person's balance goes over from the people left to the sum, and sixteen balances fit.
+use Rattle.std.proofs.Common.{◌^◌, length, arith}
 use Rattle.std.proofs.lemmas.Int.{ints}
-use Rattle.groups.proofs.SumLaws.{only_bound, only_no, only_yes, sum_bound}
+use Rattle.groups.proofs.SetLaws.{in_below, out_less}
+use Rattle.groups.proofs.SumLaws.{sum_empty, sum_of_bound, sum_out}
 use Rattle.groups.proofs.crew.Crew.sum_of.Goals as goal
-use Rattle.groups.proofs.crew.Crew.sum_of.Goals.{else-contains, then-contains}
-use Rattle.groups.specs.Sets.{is_in}
-use Rattle.balances.specs.Signed.{at_person, span_z}
-use Rattle.groups.specs.Signs.{sum_of, only}
-
-pub loop-i-init : goal.loop-i-init
-unfolding span_z
-loop-i-init c = refl
+use Rattle.balances.specs.Signed.{at_person}
 
 pub overflow_add-sum : goal.overflow_add-sum
 overflow_add-sum c =
-    let p = is_in c.args.set in
     let f = at_person c.args.self.now.balances.now in
-    omega (arith, ints, sum_bound (only p f) (2 ^ 48) c.loop-i.i (only_bound p f (2 ^ 48) c.args.self.now.moderate), c.args.self.now.moderate c.loop-i.i)
+    let n = length c.args.self.now.balances.now in
+    omega (
+      arith,
+      ints,
+      sum_of_bound f (2 ^ 48) n c.args.set c.args.self.now.moderate,
+      sum_of_bound f (2 ^ 48) n c.loop-person.person-iterator.0 c.args.self.now.moderate,
+      c.args.self.now.moderate c.in-Some.person,
+    )
 
-pub loop-i-preserved : goal.loop-i-preserved
-loop-i-preserved c =
-    let p = is_in c.args.set in
+pub bounds-self-person : goal.bounds-self-person
+bounds-self-person c =
+    in_below (length c.args.self.now.balances.now) c.loop-person.person-iterator.0 c.in-Some.person c.loop-person.invariant.0 c.in-Some.ensures.steps.0
+
+pub loop-person-preserved : goal.loop-person-preserved
+loop-person-preserved c =
     let f = at_person c.args.self.now.balances.now in
-    let small = sum_bound (only p f) (2 ^ 48) c.loop-i.i (only_bound p f (2 ^ 48) c.args.self.now.moderate) in
-    elim c.if-contains.branch [
-      | then-contains w ↦ omega (arith, ints, only_yes p f c.loop-i.i w.if-contains.ensures, small, c.args.self.now.moderate c.loop-i.i, w.sum-is)
-      | else-contains w ↦ omega (arith, ints, only_no p f c.loop-i.i w.if-contains.ensures, w.sum-is)
-    ]
+    let n = length c.args.self.now.balances.now in
+    let left = c.loop-person.person-iterator.0 in
+    let member = c.in-Some.ensures.steps.0 in
+    let below = in_below n left c.in-Some.person c.loop-person.invariant.0 member in
+    let out = sum_out f n left c.in-Some.person below member in
+    rw c.in-Some.ensures.steps.2 (
+      omega (arith, out_less left c.in-Some.person member),
+      omega (
+        arith,
+        ints,
+        out,
+        c.loop-person.invariant.1,
+        sum_of_bound f (2 ^ 48) n c.args.set c.args.self.now.moderate,
+        sum_of_bound f (2 ^ 48) n left c.args.self.now.moderate,
+        c.args.self.now.moderate c.in-Some.person,
+      ),
+    )
 
 pub returns : goal.returns
-unfolding sum_of
-returns c = let e : c.loop-i.i ≡ length c.args.self.now.balances.now = omega arith in rw e at c.loop-i.invariant
+returns c =
+    let all = rw c.in-None.ensures.steps.0 at c.loop-person.invariant.1 in
+    omega (arith, ints, all, sum_empty (at_person c.args.self.now.balances.now) (length c.args.self.now.balances.now))

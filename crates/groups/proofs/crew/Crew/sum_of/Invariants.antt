@@ -1,9 +1,9 @@
--- What is added up is the sum over the people so far.
-use Rattle.std.proofs.Common.{◌≡◌}
+-- What is added up and the sum over the people left are the sum over the set.
+use Rattle.std.proofs.Common.{◌≡◌, ◌^◌, ◌<◌, length, ◌+ℤ◌}
 use Rattle.groups.proofs.crew.Crew.sum_of.Given as goal
-use Rattle.groups.specs.Sets.{is_in}
-use Rattle.balances.specs.Signed.{at_person, span_z}
-use Rattle.groups.specs.Signs.{only}
+use Rattle.groups.specs.Tables.{set_sum}
 
-abbrev pub invariant-loop-i : goal.invariant-loop-i
-invariant-loop-i l = l.sum ≡ span_z (only (is_in l.set) (at_person l.self.balances.now)) l.i
+abbrev pub invariant-loop-person : goal.invariant-loop-person
+invariant-loop-person l =
+    (l.person-iterator.0 < 2 ^ length l.self.balances.now)
+    × (l.sum +ℤ set_sum l.self.balances.now l.person-iterator.0 ≡ set_sum l.self.balances.now l.set)
