@@ -9,7 +9,7 @@ ghost use Rattle.groups.specs.Tables.{set_sum};
 use crate::sets::People;
 use balances::sheet::Balances;
 
-pub(crate) mod tables;
+mod tables;
 
 // The balances of at most sixteen people, any of which add up in 64 bits and all of which come out even.
 #[derive(Clone, Copy)]
@@ -59,7 +59,7 @@ impl<'a> Crew<'a> {
     }
 
     // The balances of the people of a set together, worked out from nothing.
-    pub(crate) fn sum_of(&self, set: u32) -> i64
+    fn sum_of(&self, set: u32) -> i64
         requires { set < 2 ^ length self.now.balances.now }
         ensures { result ≡ set_sum self.now.balances.now set }
     {

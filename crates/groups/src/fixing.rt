@@ -21,21 +21,20 @@ pub(crate) struct Tables<'a> {
 
 impl<'a> Tables<'a> {
     // Does `part`, which has the smallest person left, sum to 0 and leave a count that is one less?
-    pub(crate) fn reaches(&self, left: u32, part: u32) -> bool
+    fn reaches(&self, left: u32, part: u32) -> bool
         requires small { left < 2 ^ length self.now.crew.balances.now }
         requires within { is_part part left ≡ true }
         requires low { is_in part (smallest (length self.now.crew.balances.now) left) ≡ true }
         ensures { result ≡ reachesOf (at_person self.now.crew.balances.now) (length self.now.crew.balances.now)
             self.now.counts.now left part }
     {
-        let closed = self.sums[part as usize] == 0;
-        let one_less = self.counts[(left - part) as usize] + 1 == self.counts[left as usize];
-        closed & one_less
+        self.sums[part as usize] == 0
+            && self.counts[(left - part) as usize] + 1 == self.counts[left as usize]
     }
 
     // The least group of the smallest person left with which the greatest number is reached.
     // What it leaves runs through the subsets of the others, the largest first, so that the group grows as a number.
-    pub(crate) fn choose(&self, left: u32) -> u32
+    fn choose(&self, left: u32) -> u32
         requires some { 0 < left }
         requires small { left < 2 ^ length self.now.crew.balances.now }
         ensures { result ≡ chosen (at_person self.now.crew.balances.now) (length self.now.crew.balances.now)
@@ -47,6 +46,7 @@ impl<'a> Tables<'a> {
                 return part;
             }
         }
+        // nothing where the people left do not come out even: one more than any set of them, as `chosen` has it
         left + 1
     }
 

@@ -27,8 +27,8 @@ pub fn group_people(
         × Kept sums.old sums.new counts.old counts.new) }
 {
     room(balances, sums, counts)?;
-    // memory for the groups is reserved before the first write
     let crew = Crew::of(balances);
+    // memory for the groups is reserved before the first write
     let mut groups = Vec::with_capacity(heap, crew.people() as usize)?;
     crew.fill(sums, counts);
     Tables { crew, sums, counts }.fix(crew.open_people(), &mut groups);

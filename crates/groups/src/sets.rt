@@ -7,15 +7,7 @@ ghost use Rattle.groups.specs.Sets.{is_in, smallest, subset_below, without};
 pub fn has_person(set: u32, person: u8) -> bool
     ensures { result ≡ is_in set person }
 {
-    person < 32 && contains(set, u32::from(person))
-}
-
-// Is person `i` in the set?
-pub(crate) fn contains(set: u32, i: u32) -> bool
-    requires { i < 32 }
-    ensures { result ≡ is_in set i }
-{
-    (set >> i) % 2 == 1
+    person < 32 && (set >> person) % 2 == 1
 }
 
 // The set without person `i`, who is in it.
@@ -43,7 +35,8 @@ pub(crate) fn without_lowest(set: u32) -> u32
     set & (set - 1)
 }
 
-// The people of a set who are left, the smallest first.
+// The people of a set who are left, the smallest first. A `for` goes over them, and over subsets: a closure in a chain
+// would not know that they are of the set.
 #[derive(Drop)]
 pub(crate) struct People(pub(crate) u32);
 

@@ -8,7 +8,7 @@ use crate::crew::Crew;
 use crate::sets::{People, lowest, take_out, without_lowest};
 
 // The greatest count of the set with one of its people taken out.
-pub(crate) fn most_of(counts: &[u8], set: u32) -> u8
+fn most_of(counts: &[u8], set: u32) -> u8
     requires { set ≤ length counts.now }
     ensures { (n : ℕ) → set < 2 ^ n → result ≡ most counts.now set n }
 {
@@ -21,7 +21,7 @@ pub(crate) fn most_of(counts: &[u8], set: u32) -> u8
 
 impl<'a> Crew<'a> {
     // The count of the set from its sum and the counts of the sets before it.
-    pub(crate) fn count_of(&self, sum: i64, counts: &[u8], set: u32) -> u8
+    fn count_of(&self, sum: i64, counts: &[u8], set: u32) -> u8
         requires small { set < 2 ^ length self.now.balances.now }
         requires summed { sum ≡ set_sum self.now.balances.now set }
         requires room { set ≤ length counts.now }
@@ -50,6 +50,7 @@ impl<'a> Crew<'a> {
         ensures { Written (at_person self.now.balances.now) (length self.now.balances.now)
             sums.old sums.new counts.old counts.new }
     {
+        // by number, since each count is made from those before it
         for set in 0..self.sets() {
             let sum = self.sum_of(set);
             sums[set as usize] = sum;
