@@ -7,7 +7,7 @@ ghost use Rattle.groups.specs.Tables.{Kept};
 
 use crate::crew::Crew;
 use crate::filling::room;
-use crate::fixing::Tables;
+use crate::fixing::Left;
 use crate::ungrouped::Ungrouped;
 use balances::sheet::Balances;
 use std::alloc::Global;
@@ -31,6 +31,12 @@ pub fn group_people(
     // memory for the groups is reserved before the first write
     let mut groups = Vec::with_capacity(heap, crew.people() as usize)?;
     crew.fill(sums, counts);
-    Tables { crew, sums, counts }.fix(crew.open_people(), &mut groups);
+    let left = Left {
+        crew,
+        sums,
+        counts,
+        people: crew.open_people(),
+    };
+    left.fix(&mut groups);
     Ok(groups)
 }

@@ -83,7 +83,7 @@ impl Iterator for Subsets {
     type Item = u32;
 
     ghost next_gives = { λ before given after. (given ≡ subset_below before.set before.below)
-        × MatchOption given (after ≡ before) (λ subset. after ≡ record before { below = subset }) };
+        × MatchOption given (after ≡ before) (λ subset. (after.set ≡ before.set) × (after.below ≡ subset)) };
 
     ghost remaining = { λ left. at_most left.below };
 

@@ -1,5 +1,5 @@
 -- The people who are open sum to 0 as all do, and there are at most as many groups as people.
-use Rattle.std.proofs.Common.{length, vec_items, sym, ap, ◌∙◌, subst, arith}
+use Rattle.std.proofs.Common.{length, vec_items, ◌∙◌, arith}
 use Rattle.groups.proofs.FixedGroups.{fixed_all}
 use Rattle.groups.proofs.OfBalances.{of_crew}
 use Rattle.groups.proofs.OpenLaws.{open_all, open_below, open_sum}
@@ -7,20 +7,24 @@ use Rattle.groups.proofs.SizeLaws.{size_le}
 use Rattle.groups.proofs.grouping.group_people.Goals as goal
 use Rattle.balances.specs.Signed.{at_person}
 use Rattle.groups.specs.Made.{Made}
-use Rattle.groups.specs.Signs.{AllOpen, sum_of}
+
+pub invariant_of-left-clause-small : goal.invariant_of-left-clause-small
+invariant_of-left-clause-small c =
+    let bs = c.of-crew.result.balances.now in
+    omega (arith, c.open_people.ensures, open_below (at_person bs) (length bs))
+
+pub invariant_of-left-clause-even : goal.invariant_of-left-clause-even
+invariant_of-left-clause-even c =
+    let bs = c.of-crew.result.balances.now in
+    rw c.open_people.ensures (open_sum (at_person bs) (length bs) ∙ c.of-crew.result.even)
+
+pub invariant_of-left-clause-unsettled : goal.invariant_of-left-clause-unsettled
+invariant_of-left-clause-unsettled c =
+    let bs = c.of-crew.result.balances.now in
+    rw c.open_people.ensures (open_all (at_person bs) (length bs))
 
 pub fix-requires : goal.fix-requires
-fix-requires c =
-    let crew = c.of-crew.result in
-    let f = at_person crew.balances.now in
-    let n = length crew.balances.now in
-    let is = c.open_people.ensures in
-    record {
-      small = omega (arith, is, open_below f n);
-      even = ap (sum_of f n) is ∙ open_sum f n ∙ crew.even;
-      unsettled = subst (AllOpen f) (sym is) (open_all f n);
-      room = omega (arith, size_le n c.open_people.result, c.in_ok-groups.ensures);
-    }
+fix-requires c = omega (arith, size_le (length c.of-crew.result.balances.now) c.open_people.result, c.in_ok-groups.ensures)
 
 pub returns : goal.returns
 returns c =

@@ -4,7 +4,7 @@ use Rattle.groups.proofs.ChosenLaws.{Chosen, chosen_is}
 use Rattle.groups.proofs.FixedLaws.{fixed_empty, fixed_joined, left_even, left_open}
 use Rattle.groups.proofs.SetLaws.{in_below, part_le, smallest_in}
 use Rattle.groups.proofs.SizeLaws.{size_minus, size_some}
-use Rattle.groups.proofs.fixing.Tables.+fix.Goals as goal
+use Rattle.groups.proofs.fixing.Left.+fix.Goals as goal
 use Rattle.groups.specs.Counts.{count}
 use Rattle.groups.specs.Filled.{Holds}
 use Rattle.groups.specs.Fixed.{chosen, fixed_by}
@@ -22,47 +22,56 @@ fewer : (f : ℕ → ℤ) (n s r : ℕ) → 0 < s → s < 2 ^ n → Chosen f n s
 fewer f n s r some small c =
     omega (arith, size_minus n r s c.part, size_some n r (smallest n s) (in_below n s (smallest n s) small (smallest_in n s some small)) c.low)
 
-pub returns-then-left-eq0 : goal.returns-then-left-eq0
-returns-then-left-eq0 t c =
+pub returns-then-self-eq0 : goal.returns-then-self-eq0
+returns-then-self-eq0 t c =
     let f = at_person c.args.self.now.crew.balances.now in
     let n = length c.args.self.now.crew.balances.now in
-    let e = ap (fixed_by f n c.args.self.now.counts.now) c.if-left-eq0.true ∙ fixed_empty f n c.args.self.now.counts.now in
+    let e = ap (fixed_by f n c.args.self.now.counts.now) c.if-self-eq0.true ∙ fixed_empty f n c.args.self.now.counts.now in
     sym (ap (λ ts. vec_items c.args.groups.now ++ ts) e ∙ append-nil (vec_items c.args.groups.now))
 
 pub push_reserved-requires : goal.push_reserved-requires
 push_reserved-requires t c =
-    let n = length c.args.self.now.crew.balances.now in
-    let k = smallest n c.args.left in
-    let kin = smallest_in n c.args.left (omega arith) c.requires.small in
-    omega (arith, size_some n c.args.left k (in_below n c.args.left k c.requires.small kin) kin)
+    let s = c.args.self.now in
+    let n = length s.crew.balances.now in
+    let k = smallest n s.people in
+    let kin = smallest_in n s.people (omega arith) s.small in
+    omega (arith, size_some n s.people k (in_below n s.people k s.small kin) kin)
 
 pub overflow_sub-left : goal.overflow_sub-left
 overflow_sub-left t c =
-    let f = at_person c.args.self.now.crew.balances.now in
-    let n = length c.args.self.now.crew.balances.now in
-    part_le c.choose-group.result c.args.left
-    (picked f n c.args.self.now.counts.now c.args.left c.choose-group.result c.args.self.now.counted (omega arith) c.requires.small
-    c.requires.even c.requires.unsettled
+    let s = c.args.self.now in
+    part_le c.choose-group.result s.people
+    (picked (at_person s.crew.balances.now) (length s.crew.balances.now) s.counts.now s.people c.choose-group.result s.counted (omega arith) s.small s.even s.unsettled
     c.choose-group.ensures).part
+
+pub invariant_of-left : goal.invariant_of-left
+invariant_of-left t c =
+    let s = c.args.self.now in
+    let f = at_person s.crew.balances.now in
+    let n = length s.crew.balances.now in
+    let r = c.choose-group.result in
+    let p = picked f n s.counts.now s.people r s.counted (omega arith) s.small s.even s.unsettled c.choose-group.ensures in
+    record {
+      summed = s.summed;
+      counted = s.counted;
+      small = omega arith;
+      even = left_even f n s.people r s.even p;
+      unsettled = left_open f n s.people r s.unsettled p;
+    }
 
 pub fix-requires : goal.fix-requires
 fix-requires t c =
-    let f = at_person c.args.self.now.crew.balances.now in
-    let n = length c.args.self.now.crew.balances.now in
-    let s = c.args.left in
+    let s = c.args.self.now in
+    let f = at_person s.crew.balances.now in
+    let n = length s.crew.balances.now in
     let r = c.choose-group.result in
-    let some : 0 < s = omega arith in
-    let p = picked f n c.args.self.now.counts.now s r c.args.self.now.counted some c.requires.small c.requires.even c.requires.unsettled c.choose-group.ensures in
-    let less = fewer f n s r some c.requires.small p in (
-      omega arith,
-      (
-        omega arith,
-        (left_even f n s r c.requires.even p, (left_open f n s r c.requires.unsettled p, omega arith)),
-      ),
-    )
+    let some : 0 < s.people = omega arith in
+    let less = fewer f n s.people r some s.small (picked f n s.counts.now s.people r s.counted some s.small s.even s.unsettled c.choose-group.ensures) in
+    (omega arith, omega arith)
 
 pub returns : goal.returns
 returns t c =
-    fixed_joined (at_person c.args.self.now.crew.balances.now) (length c.args.self.now.crew.balances.now) c.args.self.now.counts.now c.args.left c.choose-group.result
+    let s = c.args.self.now in
+    fixed_joined (at_person s.crew.balances.now) (length s.crew.balances.now) s.counts.now s.people c.choose-group.result
     (vec_items c.args.groups.now) (vec_items c.push_reserved.new.self) (vec_items c.fix.new.groups)
     (omega arith) c.choose-group.ensures c.push_reserved.ensures.items c.fix.ensures
