@@ -10,7 +10,7 @@ use crate::crew::Crew;
 use crate::sets::{Subsets, without_lowest};
 
 // The people of a crew whose groups are still to be fixed, who all are open and come out even, with the crew's filled tables.
-#[derive(Clone, Copy)]
+#[derive(Drop)]
 pub(crate) struct Left<'a> {
     pub(crate) crew: Crew<'a>,
     pub(crate) sums: &'a [i64],

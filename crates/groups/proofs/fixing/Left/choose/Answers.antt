@@ -2,17 +2,10 @@
 use Rattle.std.proofs.Common.{◌≡◌, ◌+◌, Some, None, length, sym, arith}
 use Rattle.groups.proofs.ChosenLaws.{chosen_is}
 use Rattle.groups.proofs.Passed.{tried_low, tried_part, try_first, try_here, try_next, try_none, try_part}
-use Rattle.groups.proofs.SetLaws.{out_less, part_le, smallest_in}
+use Rattle.groups.proofs.SetLaws.{part_le}
 use Rattle.groups.proofs.fixing.Left.choose.Goals as goal
 use Rattle.groups.specs.Sets.{smallest, subset_below, without}
 use Rattle.balances.specs.Signed.{at_person}
-
-pub of-rest-items-requires : goal.of-rest-items-requires
-of-rest-items-requires c =
-    let t = c.args.self.now in
-    let n = length t.crew.balances.now in
-    let others = c.without_lowest.ensures n t.small in
-    omega (arith, out_less t.people (smallest n t.people) (smallest_in n t.people c.requires t.small))
 
 pub loop-rest-init : goal.loop-rest-init
 loop-rest-init c =
@@ -22,13 +15,6 @@ loop-rest-init c =
     let set : c.into_iter-rest-iterator.result.set ≡ without t.people (smallest n t.people) = cc in
     let below : c.into_iter-rest-iterator.result.below ≡ without t.people (smallest n t.people) + 1 = cc in
     rw below (set, try_first (at_person t.crew.balances.now) n t.counts.now t.people c.requires t.small)
-
-pub overflow_sub-part : goal.overflow_sub-part
-overflow_sub-part c =
-    let t = c.args.self.now in
-    let n = length t.crew.balances.now in
-    let is : subset_below (without t.people (smallest n t.people)) c.loop-rest.rest-iterator.below ≡ Some c.in-Some.rest = cc in
-    omega (arith, part_le c.in-Some.rest (without t.people (smallest n t.people)) (try_part (at_person t.crew.balances.now) n t.counts.now t.people c.requires t.small _ _ is))
 
 pub reaches-requires : goal.reaches-requires
 reaches-requires c =
