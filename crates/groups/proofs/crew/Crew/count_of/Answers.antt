@@ -1,7 +1,7 @@
 -- Each branch is a case of the recurrence.
 use Rattle.std.proofs.Common.{length, get_or, pos, arith, rules}
 use Rattle.groups.proofs.CountLaws.{counted_empty, counted_even, counted_most, counted_sum}
-use Rattle.groups.proofs.SetLaws.{in_below, smallest_in}
+use Rattle.groups.proofs.SetLaws.{smallest_below}
 use Rattle.groups.proofs.ZeroLaws.{even_bits, open_bits}
 use Rattle.groups.proofs.crew.Crew.count_of.Goals as goal
 use Rattle.groups.specs.Sets.{smallest}
@@ -11,7 +11,7 @@ pub bounds-self-lowest : goal.bounds-self-lowest
 bounds-self-lowest c =
     let n = length c.args.self.now.balances.now in
     let low = c.lowest.ensures n c.requires.small in
-    omega (arith, in_below n c.args.set (smallest n c.args.set) c.requires.small (smallest_in n c.args.set (omega arith) c.requires.small))
+    omega (arith, smallest_below n c.args.set (omega arith) c.requires.small)
 
 pub returns-then-set-eq0 : goal.returns-then-set-eq0
 returns-then-set-eq0 c =

@@ -2,8 +2,8 @@
 use Rattle.std.proofs.Common.{◌≡◌, ℕ, ◌+◌, ◌-◌, ◌^◌, ◌<◌, List, ◌++◌, length, ℤ, pos, vec_items, sym, ap, ◌∙◌, subst, append-nil, arith}
 use Rattle.groups.proofs.ChosenLaws.{Chosen, chosen_is}
 use Rattle.groups.proofs.FixedLaws.{fixed_empty, fixed_joined, left_even, left_open}
-use Rattle.groups.proofs.SetLaws.{in_below, part_le, smallest_in}
-use Rattle.groups.proofs.SizeLaws.{size_minus, size_some}
+use Rattle.groups.proofs.SetLaws.{part_le, smallest_below}
+use Rattle.groups.proofs.SizeLaws.{size_minus, size_of_some, size_some}
 use Rattle.groups.proofs.fixing.Left.+fix.Goals as goal
 use Rattle.groups.specs.Counts.{count}
 use Rattle.groups.specs.Filled.{Holds}
@@ -20,7 +20,7 @@ picked f n cs s r have some small total all e = subst (Chosen f n s) (sym e) (ch
 -- with it, fewer are left
 fewer : (f : ℕ → ℤ) (n s r : ℕ) → 0 < s → s < 2 ^ n → Chosen f n s r → size n (s - r) + 1 < size n s + 1
 fewer f n s r some small c =
-    omega (arith, size_minus n r s c.part, size_some n r (smallest n s) (in_below n s (smallest n s) small (smallest_in n s some small)) c.low)
+    omega (arith, size_minus n r s c.part, size_some n r (smallest n s) (smallest_below n s some small) c.low)
 
 pub returns-then-self-eq0 : goal.returns-then-self-eq0
 returns-then-self-eq0 t c =
@@ -31,11 +31,7 @@ returns-then-self-eq0 t c =
 
 pub push_reserved-requires : goal.push_reserved-requires
 push_reserved-requires t c =
-    let s = c.args.self.now in
-    let n = length s.crew.balances.now in
-    let k = smallest n s.people in
-    let kin = smallest_in n s.people (omega arith) s.small in
-    omega (arith, size_some n s.people k (in_below n s.people k s.small kin) kin)
+    let s = c.args.self.now in omega (arith, size_of_some (length s.crew.balances.now) s.people (omega arith) s.small)
 
 pub overflow_sub-left : goal.overflow_sub-left
 overflow_sub-left t c =

@@ -3,7 +3,7 @@ use Rattle.std.proofs.Common.{◌-◌, length, get_or, pos, sym, ◌∙◌, arit
 use Rattle.std.proofs.lemmas.Bool.{ne_eqb}
 use Rattle.groups.proofs.ChosenLaws.{if_both}
 use Rattle.groups.proofs.SetLaws.{part_le}
-use Rattle.groups.proofs.SizeLaws.{count_size, size_le}
+use Rattle.groups.proofs.SizeLaws.{count_le}
 use Rattle.groups.proofs.ZeroLaws.{even_bits, open_bits}
 use Rattle.groups.proofs.fixing.Left.reaches.Goals as goal
 use Rattle.balances.specs.Signed.{at_person}
@@ -19,7 +19,7 @@ overflow_add-result c =
     let t = c.args.self.now in
     let n = length t.crew.balances.now in
     let k = c.args.self.now.people - c.args.part in
-    record { fits = omega (arith, t.counted.below k 0 (omega arith), count_size (at_person t.crew.balances.now) n k (omega arith), size_le n k) }
+    record { fits = omega (arith, t.counted.below k 0 (omega arith), count_le (at_person t.crew.balances.now) n k (omega arith)) }
 
 pub returns-then-self-part-eq0 : goal.returns-then-self-part-eq0
 returns-then-self-part-eq0 c =
