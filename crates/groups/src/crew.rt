@@ -50,9 +50,10 @@ impl<'a> Crew<'a> {
         ensures { result ≡ open_of (at_person self.now.balances.now) (length self.now.balances.now) }
     {
         let mut set: u32 = 0;
-        for (i, x) in self.balances.iter().enumerate() {
-            if *x != 0 {
-                set += 1 << i;
+        // a `for`, which knows that nobody's number is above 15
+        for (person, balance) in self.balances.iter().enumerate() {
+            if *balance != 0 {
+                set += 1 << person;
             }
         }
         set

@@ -4,7 +4,6 @@ use Rattle.groups.proofs.CountLaws.{counted_empty, counted_even, counted_most, c
 use Rattle.groups.proofs.SetLaws.{smallest_below}
 use Rattle.groups.proofs.ZeroLaws.{even_bits, open_bits}
 use Rattle.groups.proofs.crew.Crew.count_of.Goals as goal
-use Rattle.groups.specs.Sets.{smallest}
 use Rattle.balances.specs.Signed.{at_person}
 
 pub bounds-self-lowest : goal.bounds-self-lowest

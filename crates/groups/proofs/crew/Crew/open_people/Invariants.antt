@@ -5,5 +5,5 @@ use Rattle.groups.specs.Sets.{set_of}
 use Rattle.balances.specs.Signed.{at_person}
 use Rattle.groups.specs.Signs.{is_zero}
 
-abbrev pub invariant-loop-i : goal.invariant-loop-i
-invariant-loop-i l = l.set ≡ set_of (λ i. not (is_zero (at_person l.self.balances.now i))) l.i
+abbrev pub invariant-loop-person : goal.invariant-loop-person
+invariant-loop-person l = l.set ≡ set_of (λ i. not (is_zero (at_person l.self.balances.now i))) l.person

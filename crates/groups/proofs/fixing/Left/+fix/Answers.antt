@@ -1,5 +1,5 @@
 -- The chosen set is a part with the smallest person, so the rest is smaller, sums to 0 and has open people alone.
-use Rattle.std.proofs.Common.{◌≡◌, ℕ, ◌+◌, ◌-◌, ◌^◌, ◌<◌, List, ◌++◌, length, ℤ, pos, vec_items, sym, ap, ◌∙◌, subst, append-nil, arith}
+use Rattle.std.proofs.Common.{◌≡◌, ℕ, ◌+◌, ◌-◌, ◌^◌, ◌<◌, List, length, ℤ, pos, vec_items, sym, subst, append-nil, arith}
 use Rattle.groups.proofs.ChosenLaws.{Chosen, chosen_is}
 use Rattle.groups.proofs.FixedLaws.{fixed_empty, fixed_joined, left_even, left_open}
 use Rattle.groups.proofs.SetLaws.{part_le, smallest_below}
@@ -7,7 +7,7 @@ use Rattle.groups.proofs.SizeLaws.{size_minus, size_of_some, size_some}
 use Rattle.groups.proofs.fixing.Left.+fix.Goals as goal
 use Rattle.groups.specs.Counts.{count}
 use Rattle.groups.specs.Filled.{Holds}
-use Rattle.groups.specs.Fixed.{chosen, fixed_by}
+use Rattle.groups.specs.Fixed.{chosen}
 use Rattle.groups.specs.Sets.{size, smallest}
 use Rattle.balances.specs.Signed.{at_person}
 use Rattle.groups.specs.Signs.{AllOpen, sum_of}
@@ -24,10 +24,8 @@ fewer f n s r some small c =
 
 pub returns-then-self-eq0 : goal.returns-then-self-eq0
 returns-then-self-eq0 t c =
-    let f = at_person c.args.self.now.crew.balances.now in
-    let n = length c.args.self.now.crew.balances.now in
-    let e = ap (fixed_by f n c.args.self.now.counts.now) c.if-self-eq0.true ∙ fixed_empty f n c.args.self.now.counts.now in
-    sym (ap (λ ts. vec_items c.args.groups.now ++ ts) e ∙ append-nil (vec_items c.args.groups.now))
+    let s = c.args.self.now in
+    rw (c.if-self-eq0.true, fixed_empty (at_person s.crew.balances.now) (length s.crew.balances.now) s.counts.now, append-nil)
 
 pub push_reserved-requires : goal.push_reserved-requires
 push_reserved-requires t c =
