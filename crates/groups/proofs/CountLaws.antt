@@ -2,7 +2,7 @@
 use Rattle.std.proofs.Common.{◌≡◌, ℕ, zero, suc, ◌+◌, ◌^◌, ◌<◌, ◌≤◌, max, true, false, cond, eqb, ◌⊎◌, List, get_or, ℤ, pos, sym, refl, ap, ◌∙◌, inl, inr, arith}
 use Rattle.std.proofs.lemmas.Bool.{cases_Bool, cases_eq, cases_lt, cond-false, cond-true, ne_eqb}
 use Rattle.groups.proofs.CourseLaws.{up_to_at}
-use Rattle.groups.proofs.SetLaws.{out_less, smallest_in}
+use Rattle.groups.proofs.SetLaws.{in_empty, out_gone, out_less, out_other, smallest_in}
 use Rattle.groups.proofs.ZeroLaws.{zero_no, zero_yes}
 use Rattle.groups.specs.Counts.{count, counted, counts, most}
 use Rattle.groups.specs.Courses.{at, up_to}
@@ -68,6 +68,53 @@ most_yes cs s k e = rw e
 pub most_no : (cs : List ℕ) (s k : ℕ) → is_in s k ≡ false → most cs s (suc k) ≡ most cs s k
 unfolding most
 most_no cs s k e = rw e
+
+-- the greatest count of s with one of the people of r below k taken out
+unfoldable pub most_left : List ℕ → ℕ → ℕ → ℕ → ℕ
+most_left cs s r zero = 0
+most_left cs s r (suc k) = cond (is_in r k) (max (most_left cs s r k) (get_or cs (without s k) 0)) (most_left cs s r k)
+
+module _ (cs : List ℕ) (s : ℕ) where
+  left_yes : (r k : ℕ) → is_in r k ≡ true → most_left cs s r (suc k) ≡ max (most_left cs s r k) (get_or cs (without s k) 0)
+  unfolding most_left
+  left_yes r k e = rw e
+
+  left_no : (r k : ℕ) → is_in r k ≡ false → most_left cs s r (suc k) ≡ most_left cs s r k
+  unfolding most_left
+  left_no r k e = rw e
+
+  -- with all of them left, with none, and with one less
+  pub left_all : (k : ℕ) → most_left cs s s k ≡ most cs s k
+  unfolding most_left most
+  left_all zero = refl
+  left_all (suc k) = rw (left_all k)
+
+  pub left_none : (k : ℕ) → most_left cs s 0 k ≡ 0
+  left_none zero = unfold most_left in refl
+  left_none (suc k) = left_no 0 k (in_empty k) ∙ left_none k
+
+  left_like : (r t k : ℕ) → ((i : ℕ) → i < k → is_in r i ≡ is_in t i) → most_left cs s r k ≡ most_left cs s t k
+  unfolding most_left
+  left_like r t zero same = refl
+  left_like r t (suc k) same = rw (same k (omega arith), left_like r t k (λ i l. same i (omega arith)))
+
+  pub left_out : (r i k : ℕ) → i < k → is_in r i ≡ true → most_left cs s r k ≡ max (get_or cs (without s i) 0) (most_left cs s (without r i) k)
+  left_out r i zero h e = absurd (omega arith)
+  left_out r i (suc k) h e =
+      elim (cases_eq k i) [
+        | inl q ↦
+            let here = left_yes r i e in
+            let gone = left_no (without r i) i (out_gone r i e) in
+            let same = left_like r (without r i) i (λ j l. sym (out_other r i j e (λ z. omega arith))) in
+            rw q (omega arith)
+        | inr ne ↦
+            let ih = left_out r i k (omega arith) e in
+            let same = out_other r i k e ne in
+            elim (cases_Bool (is_in r k)) [
+              | inl y ↦ omega (arith, ih, left_yes r k y, left_yes (without r i) k (same ∙ y))
+              | inr y ↦ omega (arith, ih, left_no r k y, left_no (without r i) k (same ∙ y))
+            ]
+      ]
 
 most_bound : (cs : List ℕ) (s k i : ℕ) → i < k → is_in s i ≡ true → get_or cs (without s i) 0 ≤ most cs s k
 most_bound cs s zero i h e = absurd (omega arith)

@@ -1,6 +1,5 @@
 -- The numbers of balances, lent as a slice, are what the functions over slices want, and what these say of the slice holds of the balances.
-use Rattle.std.proofs.Common.{◌≡◌, ℕ, ◌^◌, ◌≤◌, List, length, ℤ, pos, None, sym, ap, ◌∙◌, subst, ap₂, arith}
-use Rattle.std.proofs.lemmas.Bool.Decides.{nat_tests}
+use Rattle.std.proofs.Common.{◌≡◌, ℕ, ◌≤◌, List, length, ℤ, pos, sym, ap, ◌∙◌, subst, ap₂, arith}
 use Rattle.balances.proofs.Holds.{even_there}
 use Rattle.balances.proofs.Numbers.{numbers_near, numbers_same}
 use Rattle.balances.specs.Signed.{at_person, span_z}
@@ -8,13 +7,8 @@ use Rattle.balances.specs.View.{cents_of, numbers_of, people_of}
 use Rattle.balances.specs.declared.sheet.Balances.{Balances}
 use Rattle.groups.proofs.OpenLaws.{everyone_sum}
 use Rattle.groups.specs.Sets.{everyone}
-use Rattle.groups.specs.Shorts.{too_short}
 use Rattle.groups.specs.Signs.{Moderate}
 use Rattle.groups.specs.Tables.{set_sum}
-
--- where no table is too short both have room
-pub both_room : (n : ℕ) (sums : List ℤ) (counts : List ℕ) → too_short n sums counts ≡ None → (2 ^ n ≤ length sums) × (2 ^ n ≤ length counts)
-both_room n sums counts e = (grind (arith, nat_tests), grind (arith, nat_tests))
 
 module _ (b : Balances) (xs : List ℤ) (is : xs ≡ numbers_of b) (each : length xs ≡ people_of b) where
   pub crew_few : length xs ≤ 16
@@ -28,9 +22,6 @@ module _ (b : Balances) (xs : List ℤ) (is : xs ≡ numbers_of b) (each : lengt
 
   pub crew_even : set_sum xs (everyone (length xs)) ≡ pos 0
   crew_even = everyone_sum (at_person xs) (length xs) ∙ ap₂ span_z crew_same each ∙ even_there b
-
-  pub crew_room : (sums : List ℤ) (counts : List ℕ) → too_short (people_of b) sums counts ≡ None → (2 ^ length xs ≤ length sums) × (2 ^ length xs ≤ length counts)
-  crew_room sums counts e = subst (λ n. (2 ^ n ≤ length sums) × (2 ^ n ≤ length counts)) (sym each) (both_room (people_of b) sums counts e)
 
   -- what holds of the numbers holds of the balances
   pub of_crew : (P : (ℕ → ℤ) → ℕ → Type 0) → P (at_person xs) (length xs) → P (cents_of b) (people_of b)

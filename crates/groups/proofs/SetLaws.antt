@@ -86,6 +86,9 @@ smallest_in (suc n) s some small =
       | inr o ↦ rw (smallest_odd n s (omega arith), in_zero) (eq-eqb (s % 2) 1 (omega arith))
     ]
 
+pub smallest_below : (n s : ℕ) → 0 < s → s < 2 ^ n → smallest n s < n
+smallest_below n s some small = in_below n s (smallest n s) small (smallest_in n s some small)
+
 pub smallest_least : (n s k : ℕ) → k < smallest n s → is_in s k ≡ false
 smallest_least zero s k less = let e : smallest 0 s ≡ 0 = unfold smallest count_trailing_zeros in refl in absurd (omega arith)
 smallest_least (suc n) s zero less =
@@ -162,10 +165,6 @@ same_set (suc n) s t a b same =
 pub part_le : (t s : ℕ) → is_part t s ≡ true → t ≤ s
 unfolding is_part
 part_le t s h = omega (arith, eqb-true (bit_and t s) t h, and_le_r t s)
-
-pub part_self : (s : ℕ) → is_part s s ≡ true
-unfolding is_part
-part_self s = eq-eqb (bit_and s s) s (and_self s)
 
 pub part_is : (t s : ℕ) → is_part t s ≡ true → bit_and t s ≡ t
 unfolding is_part

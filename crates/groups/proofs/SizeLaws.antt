@@ -2,7 +2,7 @@
 use Rattle.std.proofs.Common.{◌≡◌, ℕ, zero, suc, ◌+◌, ◌-◌, ◌^◌, ◌<◌, ◌≤◌, Bool, true, not, ◌&&◌, eqb, ℤ, sym, refl, inl, inr, arith}
 use Rattle.std.proofs.lemmas.Bool.{cases_eq, cases_lt, eq-eqb, ne_eqb}
 use Rattle.groups.proofs.CountLaws.{count_empty, count_even, count_reached, count_sum}
-use Rattle.groups.proofs.SetLaws.{in_below, minus_in, out_gone, out_less, out_other, part_in, smallest_in}
+use Rattle.groups.proofs.SetLaws.{in_below, minus_in, out_gone, out_less, out_other, part_in, smallest_below, smallest_in}
 use Rattle.groups.proofs.Smaller.{by_smaller}
 use Rattle.groups.proofs.SumLaws.{span_two}
 use Rattle.shares.proofs.Spans.{at_most_span, span_at}
@@ -56,6 +56,10 @@ size_step f n s ih small =
 pub count_size : (f : ℕ → ℤ) (n s : ℕ) → s < 2 ^ n → count f n s ≤ size n s
 count_size f n = by_smaller (λ s. s < 2 ^ n → count f n s ≤ size n s) (size_step f n)
 
+-- and so than people there are
+pub count_le : (f : ℕ → ℤ) (n s : ℕ) → s < 2 ^ n → count f n s ≤ n
+count_le f n s small = omega (arith, count_size f n s small, size_le n s)
+
 -- a set has as many people as a part and the rest
 pub size_minus : (n t s : ℕ) → is_part t s ≡ true → size n s ≡ size n t + size n (s - t)
 unfolding size
@@ -69,3 +73,7 @@ size_minus n t s p =
 pub size_some : (n s i : ℕ) → i < n → is_in s i ≡ true → 0 < size n s
 unfolding size
 size_some n s i l e = let one : pick {A = ℕ} (is_in s i) 1 0 ≡ 1 = rw e in omega (arith, at_most_span (λ i. pick {A = ℕ} (is_in s i) 1 0) n i l)
+
+-- a set with somebody has a size
+pub size_of_some : (n s : ℕ) → 0 < s → s < 2 ^ n → 0 < size n s
+size_of_some n s some small = size_some n s (smallest n s) (smallest_below n s some small) (smallest_in n s some small)

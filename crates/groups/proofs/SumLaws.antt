@@ -1,13 +1,16 @@
 -- Laws of sums over the first n people.
-use Rattle.std.proofs.Common.{◌≡◌, ℕ, zero, suc, ◌+◌, ◌*◌, ◌<◌, ◌≤◌, Bool, true, false, eqb, ltb, ℤ, pos, ◌+ℤ◌, nat_abs, refl, ◌∙◌, add-one, arith}
+use Rattle.std.proofs.Common.{◌≡◌, ℕ, zero, suc, ◌+◌, ◌*◌, ◌<◌, ◌≤◌, Bool, true, false, eqb, ltb, ℤ, pos, ◌+ℤ◌, nat_abs, refl, ◌∙◌, inl, inr, arith}
 use Rattle.std.proofs.lemmas.Int.{ints}
+use Rattle.std.proofs.lemmas.Bool.{cases_eq}
 use Rattle.std.proofs.lemmas.Bool.Decides.{nat_tests}
 use Rattle.shares.proofs.Spans.{span_add, span_same}
 use Rattle.shares.specs.Bill.{pick}
 use Rattle.shares.specs.Span.{span}
-use Rattle.balances.proofs.SpansZ.{span_z_zero}
+use Rattle.balances.proofs.SpansZ.{span_z_same, span_z_zero}
 use Rattle.balances.specs.Signed.{span_z}
-use Rattle.groups.specs.Signs.{only}
+use Rattle.groups.proofs.SetLaws.{in_empty, out_gone, out_other}
+use Rattle.groups.specs.Sets.{is_in, without}
+use Rattle.groups.specs.Signs.{only, sum_of}
 
 -- a sum over whole numbers in two parts
 pub span_two : (g h k : ℕ → ℕ) (n : ℕ) → ((i : ℕ) → i < n → g i ≡ h i + k i) → span g n ≡ span h n + span k n
@@ -45,11 +48,27 @@ sum_bound g m (suc n) each = omega (arith, ints, sum_bound g m n each, each n)
 pub only_bound : (p : ℕ → Bool) (f : ℕ → ℤ) (m : ℕ) → ((i : ℕ) → nat_abs (f i) ≤ m) → (i : ℕ) → nat_abs (only p f i) ≤ m
 only_bound p f m each i = let e = each i in grind arith
 
--- one person more, who passes or not
-pub only_yes : (p : ℕ → Bool) (f : ℕ → ℤ) (i : ℕ) → true ≡ p i → span_z (only p f) (i + 1) ≡ span_z (only p f) i +ℤ f i
-unfolding span_z
-only_yes p f i e = rw (add-one, ← e) (omega (arith, ints))
+-- the sum over a set is at most n times as much as any balance
+pub sum_of_bound : (f : ℕ → ℤ) (m n s : ℕ) → ((i : ℕ) → nat_abs (f i) ≤ m) → nat_abs (sum_of f n s) ≤ n * m
+unfolding sum_of
+sum_of_bound f m n s each = sum_bound (only (is_in s) f) m n (only_bound (is_in s) f m each)
 
-pub only_no : (p : ℕ → Bool) (f : ℕ → ℤ) (i : ℕ) → false ≡ p i → span_z (only p f) (i + 1) ≡ span_z (only p f) i
-unfolding span_z
-only_no p f i e = rw (add-one, ← e) (omega (arith, ints))
+-- nobody has nothing, and with somebody taken out the balance goes
+pub sum_empty : (f : ℕ → ℤ) (n : ℕ) → sum_of f n 0 ≡ pos 0
+unfolding sum_of
+sum_empty f n = span_z_zero (only (is_in 0) f) n (λ i l. rw (in_empty i))
+
+pub sum_out : (f : ℕ → ℤ) (n s i : ℕ) → i < n → is_in s i ≡ true → sum_of f n s ≡ f i +ℤ sum_of f n (without s i)
+unfolding sum_of span_z
+sum_out f zero s i h e = absurd (omega arith)
+sum_out f (suc k) s i h e =
+    elim (cases_eq k i) [
+      | inl q ↦
+          let here : pick (is_in s k) (f k) (pos 0) ≡ f i = rw (q, e) in
+          let gone : pick (is_in (without s i) k) (f k) (pos 0) ≡ pos 0 = rw (q, out_gone s i e) in
+          let same = span_z_same (only (is_in s) f) (only (is_in (without s i)) f) k (λ j l. rw (out_other s i j e (λ z. omega arith))) in
+          omega (arith, ints, here, gone, same)
+      | inr ne ↦
+          let same : pick (is_in (without s i) k) (f k) (pos 0) ≡ pick (is_in s k) (f k) (pos 0) = rw (out_other s i k e ne) in
+          omega (arith, ints, same, sum_out f k s i (omega arith) e)
+    ]

@@ -1,7 +1,7 @@
 -- Whether a balance is even: the test and what it says.
-use Rattle.std.proofs.Common.{◌≡◌, ℕ, Bool, true, false, eqb, ◌⊎◌, ℤ, pos, negsuc, nat_abs, sym, refl, ap, ◌∙◌, inl, inr, arith, w64, SFits, to_z, of_z}
-use Rattle.std.proofs.lemmas.Int.{ints, to_z-of_z}
-use Rattle.std.proofs.lemmas.Bool.{cases_Bool, eqb-true, ne_eqb}
+use Rattle.std.proofs.Common.{◌≡◌, ℕ, true, false, eqb, ◌⊎◌, ℤ, pos, negsuc, nat_abs, sym, refl, ◌∙◌, inl, inr, arith, w64, SFits, of_z}
+use Rattle.std.proofs.lemmas.Int.{ints}
+use Rattle.std.proofs.lemmas.Bool.{cases_Bool, eq-eqb, eqb-true, ne_eqb}
 use Rattle.groups.specs.Signs.{is_zero}
 
 pub zero_yes : (z : ℤ) → z ≡ pos 0 → is_zero z ≡ true
@@ -30,6 +30,9 @@ bits_zero (negsuc n) fits =
     let small = fits.sfits in
     ne_eqb (of_z w64 (negsuc n)) 0 (omega arith) ∙ sym (ne_eqb (nat_abs (negsuc n)) 0 (omega arith))
 
--- what a test says of a number that went to its bits and back
-pub read_zero : (z : ℤ) (t : Bool) → SFits w64 z → t ≡ is_zero (to_z w64 (of_z w64 z)) → is_zero z ≡ t
-read_zero z t fits e = ap is_zero (sym (to_z-of_z w64 z fits)) ∙ sym e
+-- so a test of the bits says whether it is
+pub even_bits : (z : ℤ) → SFits w64 z → of_z w64 z ≡ 0 → is_zero z ≡ true
+even_bits z fits e = sym (bits_zero z fits) ∙ eq-eqb (of_z w64 z) 0 e
+
+pub open_bits : (z : ℤ) → SFits w64 z → (of_z w64 z ≡ 0 → ⊥) → is_zero z ≡ false
+open_bits z fits ne = sym (bits_zero z fits) ∙ ne_eqb (of_z w64 z) 0 ne

@@ -1,5 +1,5 @@
 -- Sets of people as the bits of a number: person i stands for 2 ^ i.
-use Rattle.std.specs.Prelude.{ℕ, ◌-◌, ◌/◌, ◌%◌, ◌^◌, Bool, ◌==◌, bit_and}
+use Rattle.std.specs.Prelude.{ℕ, zero, suc, Option, Some, None, ◌-◌, ◌/◌, ◌%◌, ◌^◌, Bool, ◌==◌, bit_and}
 use Rattle.std.specs.Int.Count.{count_trailing_zeros}
 use Rattle.shares.specs.Bill.{pick}
 use Rattle.shares.specs.Span.{span}
@@ -19,6 +19,11 @@ smallest n s = count_trailing_zeros n s
 -- is everybody of t in s
 unfoldable pub is_part : ℕ → ℕ → Bool
 is_part t s = bit_and t s == t
+
+-- of the subsets of m below b, where b is one of them or one more than m, the greatest
+abbrev pub subset_below : ℕ → ℕ → Option ℕ
+subset_below m zero = None
+subset_below m (suc b) = Some (bit_and b m)
 
 -- all of n people
 abbrev pub everyone : ℕ → ℕ

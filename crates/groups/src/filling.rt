@@ -1,20 +1,12 @@
 // The tables of all sets of a crew, where they have room for them.
-ghost use Rattle.std.specs.Prelude.{◌≡◌, ◌^◌, ◌≤◌, Some, None, MatchResult};
+ghost use Rattle.std.specs.Prelude.{◌≡◌, Some, None, MatchResult};
 ghost use Rattle.balances.specs.View.{cents_of, people_of};
 ghost use Rattle.groups.specs.Shorts.{too_short};
 ghost use Rattle.groups.specs.Tables.{Kept, Written};
 
+use crate::crew::Crew;
 use crate::short::Short;
-use crate::tables::fill;
 use balances::sheet::Balances;
-
-// How many sets so many people have.
-fn sets_of(people: u8) -> usize
-    requires { people ≤ 16 }
-    ensures { result ≡ 2 ^ people }
-{
-    1 << people
-}
 
 // The first table that has fewer entries than there are sets.
 pub fn room(balances: &Balances, sums: &[i64], counts: &[u8]) -> Result<(), Short>
@@ -22,7 +14,7 @@ pub fn room(balances: &Balances, sums: &[i64], counts: &[u8]) -> Result<(), Shor
         (λ _. too_short (people_of balances.now) sums.now counts.now ≡ None)
         (λ e. too_short (people_of balances.now) sums.now counts.now ≡ Some e) }
 {
-    let sets = sets_of(balances.people());
+    let sets = Crew::of(balances).sets() as usize;
     if sums.len() < sets {
         return Err(Short::Sums);
     }
@@ -42,6 +34,6 @@ pub fn fill_tables(balances: &Balances, sums: &mut [i64], counts: &mut [u8]) -> 
         × Kept sums.old sums.new counts.old counts.new) }
 {
     room(balances, sums, counts)?;
-    fill(balances.numbers(), sums, counts);
+    Crew::of(balances).fill(sums, counts);
     Ok(())
 }

@@ -5,8 +5,9 @@ ghost use Rattle.groups.specs.Made.{Made, Refused};
 ghost use Rattle.groups.specs.Shorts.{too_short};
 ghost use Rattle.groups.specs.Tables.{Kept};
 
+use crate::crew::Crew;
 use crate::filling::room;
-use crate::fixing::group_numbers;
+use crate::fixing::Left;
 use crate::ungrouped::Ungrouped;
 use balances::sheet::Balances;
 use std::alloc::Global;
@@ -25,11 +26,17 @@ pub fn group_people(
         (λ e. Refused (too_short (people_of balances.now) sums.old counts.old) e
         × Kept sums.old sums.new counts.old counts.new) }
 {
-    if let Err(short) = room(balances, sums, counts) {
-        return Err(Ungrouped::Short(short));
-    }
-    match group_numbers(heap, balances.numbers(), sums, counts) {
-        Ok(groups) => Ok(groups),
-        Err(_) => Err(Ungrouped::Memory),
-    }
+    room(balances, sums, counts)?;
+    let crew = Crew::of(balances);
+    // memory for the groups is reserved before the first write
+    let mut groups = Vec::with_capacity(heap, crew.people() as usize)?;
+    crew.fill(sums, counts);
+    let left = Left {
+        crew,
+        sums,
+        counts,
+        people: crew.open_people(),
+    };
+    left.fix(&mut groups);
+    Ok(groups)
 }

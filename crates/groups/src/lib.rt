@@ -1,12 +1,12 @@
 // Groups of people that come out even: how many there can be, and which they are by rule.
 #![tactic(auto)]
 
+mod crew;
 pub mod filling;
 mod fixing;
 pub mod grouping;
 pub mod sets;
 pub mod short;
-mod tables;
 #[cfg(test)]
 mod tests;
 pub mod ungrouped;

@@ -10,14 +10,10 @@ use std::test::Fail;
 // Each crew has these groups.
 fn grouped(rt: &(impl Abort + AllocGlobal), table: &[(&[i64], &[u32])]) -> Result<(), Fail> {
     for (cents, groups) in table {
-        let Ok(balances) = Balances::from_cents(cents) else {
-            return Err(Fail::new("no balances"));
-        };
+        let balances = Balances::from_cents(cents)?;
         let mut sums = vec![in rt.alloc(); 0; 65536]?;
         let mut counts = vec![in rt.alloc(); 0; 65536]?;
-        let Ok(found) = group_people(rt.alloc(), &balances, &mut sums, &mut counts) else {
-            return Err(Fail::new("no groups"));
-        };
+        let found = group_people(rt.alloc(), &balances, &mut sums, &mut counts)?;
         assert_eq!(rt; found.as_slice(), *groups);
     }
     Ok(())
@@ -78,12 +74,9 @@ fn sixteen_people(rt: HostRuntime) -> Result<(), Fail> {
     )
 }
 
-// The number and place of an answer, or 0 and 0.
-fn code(answer: Result<(), Short>) -> (u8, usize) {
-    match answer {
-        Ok(()) => (0, 0),
-        Err(short) => (short.number(), short.place()),
-    }
+// The answer with a refusal's number and place.
+fn code(answer: Result<(), Short>) -> Result<(), (u8, usize)> {
+    answer.map_err(|short| (short.number(), short.place()))
 }
 
 // Tables of 7 and of 9 are refused with this number and place for two people, and stay as they were.
@@ -93,16 +86,14 @@ fn refused(
     counts: &mut [u8],
     expected: (u8, usize),
 ) -> Result<(), Fail> {
-    let Ok(pair) = Balances::from_cents(&[-1, 1]) else {
-        return Err(Fail::new("no balances"));
-    };
-    assert_eq!(rt; code(room(&pair, sums, counts)), expected);
-    assert_eq!(rt; code(fill_tables(&pair, sums, counts)), expected);
+    let pair = Balances::from_cents(&[-1, 1])?;
+    assert_eq!(rt; code(room(&pair, sums, counts)), Err(expected));
+    assert_eq!(rt; code(fill_tables(&pair, sums, counts)), Err(expected));
     let answer = match group_people(rt.alloc(), &pair, sums, counts) {
         Err(Ungrouped::Short(short)) => Err(short),
         _ => Ok(()),
     };
-    assert_eq!(rt; code(answer), expected);
+    assert_eq!(rt; code(answer), Err(expected));
     for sum in sums {
         assert_eq!(rt; *sum, 7);
     }
@@ -121,17 +112,15 @@ fn tables_too_short_by_one(rt: HostRuntime) -> Result<(), Fail> {
 
 #[test]
 fn longer_tables(rt: HostRuntime) -> Result<(), Fail> {
-    let Ok(three) = Balances::from_cents(&[-3, 0, 3]) else {
-        return Err(Fail::new("no balances"));
-    };
+    let three = Balances::from_cents(&[-3, 0, 3])?;
     let mut sums = [7; 10];
     let mut counts = [9; 9];
-    assert_eq!(rt; code(fill_tables(&three, &mut sums, &mut counts)), (0, 0));
+    assert_eq!(rt; code(fill_tables(&three, &mut sums, &mut counts)), Ok(()));
     assert_eq!(rt; sums, [0, -3, 0, -3, 3, 0, 3, 0, 7, 7]);
     assert_eq!(rt; counts, [0, 0, 0, 0, 0, 1, 0, 1, 9]);
     sums = [7; 10];
     counts = [9; 9];
-    assert!(rt; group_people(rt.alloc(), &three, &mut sums, &mut counts).is_ok());
+    group_people(rt.alloc(), &three, &mut sums, &mut counts)?;
     assert_eq!(rt; sums, [0, -3, 0, -3, 3, 0, 3, 0, 7, 7]);
     assert_eq!(rt; counts, [0, 0, 0, 0, 0, 1, 0, 1, 9]);
     Ok(())

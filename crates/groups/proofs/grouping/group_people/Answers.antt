@@ -1,29 +1,42 @@
--- The people's numbers are few, moderate and even, and the tables have room for their sets.
-use Rattle.std.proofs.Common.{vec_items}
-use Rattle.groups.proofs.OfBalances.{crew_even, crew_few, crew_moderate, crew_room, of_crew}
+-- The people who are open sum to 0 as all do, and there are at most as many groups as people.
+use Rattle.std.proofs.Common.{length, vec_items, ◌∙◌, arith}
+use Rattle.groups.proofs.FixedGroups.{fixed_all}
+use Rattle.groups.proofs.OfBalances.{of_crew}
+use Rattle.groups.proofs.OpenLaws.{open_all, open_below, open_sum}
+use Rattle.groups.proofs.SizeLaws.{size_le}
 use Rattle.groups.proofs.grouping.group_people.Goals as goal
+use Rattle.balances.specs.Signed.{at_person}
 use Rattle.groups.specs.Made.{Made}
 
-pub group_numbers-requires : goal.group_numbers-requires
-group_numbers-requires c =
-    let b = c.args.balances.now in
-    let xs = c.numbers.result.now in
-    let is = c.numbers.ensures in
-    let space = crew_room b xs is.all is.each c.args.sums.now c.args.counts.now c.in_default.ensures in
-    record {
-      few = crew_few b xs is.all is.each;
-      moderate = crew_moderate b xs is.all is.each;
-      even = crew_even b xs is.all is.each;
-      room_sums = space.0;
-      room_counts = space.1;
-    }
+pub invariant_of-left-clause-small : goal.invariant_of-left-clause-small
+invariant_of-left-clause-small c =
+    let bs = c.of-crew.result.balances.now in
+    omega (arith, c.open_people.ensures, open_below (at_person bs) (length bs))
 
-pub returns-in-Ok : goal.returns-in-Ok
-returns-in-Ok c =
-    let is = c.numbers.ensures in
-    let then = c.group_numbers.new in (
-      c.in_default.ensures,
-      of_crew c.args.balances.now c.numbers.result.now is.all is.each
-          (λ f n. Made f n c.args.sums.now then.sums c.args.counts.now then.counts (vec_items c.in-Ok.groups))
-          c.in-Ok.ensures,
+pub invariant_of-left-clause-even : goal.invariant_of-left-clause-even
+invariant_of-left-clause-even c =
+    let bs = c.of-crew.result.balances.now in
+    rw c.open_people.ensures (open_sum (at_person bs) (length bs) ∙ c.of-crew.result.even)
+
+pub invariant_of-left-clause-unsettled : goal.invariant_of-left-clause-unsettled
+invariant_of-left-clause-unsettled c =
+    let bs = c.of-crew.result.balances.now in
+    rw c.open_people.ensures (open_all (at_person bs) (length bs))
+
+pub fix-requires : goal.fix-requires
+fix-requires c = omega (arith, size_le (length c.of-crew.result.balances.now) c.open_people.result, c.in_ok-groups.ensures)
+
+pub returns : goal.returns
+returns c =
+    let is = c.of-crew.ensures in
+    let bs = c.of-crew.result.balances.now in
+    let filled = c.fill.new in (
+      c.in_ok-room.ensures,
+      of_crew c.args.balances.now bs is.all is.each
+          (λ f n. Made f n c.args.sums.now filled.sums c.args.counts.now filled.counts (vec_items c.fix.new.groups))
+          (record {
+            written = c.fill.ensures;
+            groups = fixed_all (at_person bs) (length bs) filled.counts c.open_people.result (vec_items c.in_ok-groups.groups) (vec_items c.fix.new.groups)
+                (λ k l. c.fill.ensures.counted.below k 0 l) c.in_ok-groups.ensures.items c.open_people.ensures c.fix.ensures;
+          }),
     )

@@ -3,4 +3,4 @@ use Rattle.groups.proofs.SetLaws.{mask_lowest}
 use Rattle.groups.proofs.sets.without_lowest.Goals as goal
 
 pub returns : goal.returns
-returns c = mask_lowest c.args.n c.args.set c.requires.some c.requires.small
+returns c n small = mask_lowest n c.args.set c.requires small

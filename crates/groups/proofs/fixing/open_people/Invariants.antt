@@ -1,9 +1,0 @@
--- The set has those who are open so far.
-use Rattle.std.proofs.Common.{◌≡◌, not}
-use Rattle.groups.proofs.fixing.open_people.Given as goal
-use Rattle.groups.specs.Sets.{set_of}
-use Rattle.balances.specs.Signed.{at_person}
-use Rattle.groups.specs.Signs.{is_zero}
-
-abbrev pub invariant-loop-i : goal.invariant-loop-i
-invariant-loop-i l = l.set ≡ set_of (λ i. not (is_zero (at_person l.balances i))) l.i
