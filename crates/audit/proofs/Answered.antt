@@ -1,5 +1,5 @@
 -- The verdict that is worked out from a tally fits the payments.
-use Rattle.std.proofs.Common.{◌≡◌, ℕ, zero, suc, ◌+◌, ◌<◌, Bool, not, leb, List, length, get_or, ℤ, ◌+ℤ◌, None, Ok, Result, refl, ap, ◌∙◌, arith, Bor}
+use Rattle.std.proofs.Common.{◌≡◌, ℕ, ◌+◌, ◌<◌, not, leb, List, length, get_or, ℤ, ◌+ℤ◌, None, Ok, Result, refl, ap, ◌∙◌, arith, Bor}
 use mathlib.Core.Path.{fun_ext}
 use Rattle.std.proofs.ByRecursion.{All-weaker}
 use Rattle.std.proofs.lemmas.Int.{ints}
@@ -27,8 +27,8 @@ use Rattle.groups.specs.Shorts.{too_short}
 use Rattle.groups.specs.Signs.{is_zero}
 use Rattle.groups.specs.Tables.{Written}
 use Rattle.settlement.specs.Amounts.{first_of}
-use Rattle.settlement.specs.Paying.{first}
 use Rattle.settlement.specs.Settled.{book_lines}
+use Rattle.groups.proofs.First.{first_like}
 use Rattle.audit.specs.Audited.{Answers, Audited}
 use Rattle.audit.specs.Bytes.{lent, payments_of}
 use Rattle.audit.specs.Judged.{first_unquit, quit, verdict_of}
@@ -39,12 +39,6 @@ use Rattle.audit.specs.declared.tally.Tally.{Tally}
 use Rattle.audit.specs.declared.unaudited.Unaudited.{Unaudited}
 use Rattle.audit.specs.declared.verdict.Verdict.{Verdict}
 use Rattle.audit.proofs.Verdicts.{judged_fits}
-
--- tests that agree below n find the same
-first_same : (s t : ℕ → Bool) (n : ℕ) → ((i : ℕ) → i < n → s i ≡ t i) → first s n ≡ first t n
-unfolding first
-first_same s t zero h = refl
-first_same s t (suc n) h = rw (first_same s t n (λ i l. h i (omega arith)), h n (omega arith)) refl
 
 module _ (b : Balances) (ps : List Payment) (net : List ℤ) (moved : ℕ) (r : Running (people_of b) ps net moved) where
   -- a person is left with nothing exactly where it is quit
@@ -60,7 +54,7 @@ module _ (b : Balances) (ps : List Payment) (net : List ℤ) (moved : ℕ) (r : 
   left_unquit : first_of (people_of b) (is_left (cents_of b) net) ≡ first_unquit (sides_of b) ps
   unfolding first_unquit
   left_unquit =
-      let same = first_same (is_left (cents_of b) net) (λ i. not (quit (sides_of b) ps i)) (people_of b) (λ i l. ap not (zero_quit i l)) in
+      let same = first_like (is_left (cents_of b) net) (λ i. not (quit (sides_of b) ps i)) (people_of b) (λ i l. ap not (zero_quit i l)) in
       rw same refl
 
   -- the verdict by the first who is left with something and the count of everyone

@@ -1,28 +1,19 @@
 -- The smallest number that passes a test.
-use Rattle.std.proofs.Common.{◌≡◌, ℕ, zero, suc, ◌+◌, ◌<◌, ◌≤◌, Bool, true, false, Option, Some, None, MatchOption, inl, inr, arith}
+use Rattle.std.proofs.Common.{◌≡◌, ℕ, ◌<◌, ◌≤◌, Bool, true, false, Option, Some, None, MatchOption, inl, inr, arith}
 use Rattle.std.proofs.lemmas.Bool.{cases_lt}
 use Rattle.std.proofs.lemmas.Bool.Decides.{nat_tests as tells}
+use Rattle.groups.proofs.First as groups
 use Rattle.settlement.specs.Amounts.{first_of}
 use Rattle.settlement.specs.Paying.{first}
 
 pub first_le : (t : ℕ → Bool) (n : ℕ) → first t n ≤ n
-unfolding first
-first_le t zero = omega arith
-first_le t (suc n) = grind (arith, first_le t n)
+first_le = groups.first_le
 
 pub first_passes : (t : ℕ → Bool) (n : ℕ) → first t n < n → t (first t n) ≡ true
-unfolding first
-first_passes t zero h = absurd (omega arith)
-first_passes t (suc n) h = grind (arith, first_passes t n)
+first_passes = groups.first_passes
 
 pub first_least : (t : ℕ → Bool) (n i : ℕ) → i < n → t i ≡ true → first t n ≤ i
-unfolding first
-first_least t zero i l h = absurd (omega arith)
-first_least t (suc n) i l h =
-    elim (cases_lt i n) [
-      | inl k ↦ grind (arith, first_least t n i k h)
-      | inr k ↦ let e : i ≡ n = omega arith in grind (arith, first_le t n)
-    ]
+first_least = groups.first_there
 
 -- what is found where nothing before it passes, or where nothing passes
 pub first_of_search : (t : ℕ → Bool) (n : ℕ) (r : Option ℕ) →

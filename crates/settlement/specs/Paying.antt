@@ -1,18 +1,14 @@
 -- The settlement from groups: in each group the first who owes pays the first who is owed, until the group is even.
 use Rattle.std.specs.Prelude.{ℕ, zero, suc, ◌-◌, min, Bool, true, false, ◌&&◌, List, [], ◌∷◌, ◌++◌, map, ℤ, ◌==◌, nat_lt}
 use Rattle.balances.specs.Signed.{debt, credit}
+use Rattle.groups.specs.Fixed.{first_of}
 use Rattle.groups.specs.Sets.{is_in}
 use Rattle.shares.specs.Bill.{pick}
 use Rattle.book.specs.Ledger.{Payment}
 
--- the first found below n, or n itself where it passes, or the number after it
-abbrev pub earlier : (ℕ → Bool) → ℕ → ℕ → ℕ
-earlier t n r = pick (nat_lt r n) r (pick (t n) n (suc n))
-
 -- the smallest number below n that passes, n where none does
-unfoldable pub first : (ℕ → Bool) → ℕ → ℕ
-first t zero = 0
-first t (suc n) = earlier t n (first t n)
+abbrev pub first : (ℕ → Bool) → ℕ → ℕ
+first = first_of
 
 -- who of the group still has something of f
 abbrev pub has : (ℕ → Bool) → (ℕ → ℕ) → ℕ → Bool
