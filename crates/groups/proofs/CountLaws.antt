@@ -117,18 +117,7 @@ module _ (cs : List ℕ) (s : ℕ) where
       ]
 
 most_bound : (cs : List ℕ) (s k i : ℕ) → i < k → is_in s i ≡ true → get_or cs (without s i) 0 ≤ most cs s k
-most_bound cs s zero i h e = absurd (omega arith)
-most_bound cs s (suc k) i h e =
-    elim (cases_Bool (is_in s k)) [
-      | inl y ↦ elim (cases_eq i k) [
-        | inl q ↦ rw q (omega (arith, most_yes cs s k y))
-        | inr ne ↦ omega (arith, most_yes cs s k y, most_bound cs s k i (omega arith) e)
-      ]
-      | inr y ↦ elim (cases_eq i k) [
-        | inl q ↦ let z : ◌≡◌ {A = ℕ} 0 1 = cc (ap (is_in s) q) in absurd (omega arith)
-        | inr ne ↦ omega (arith, most_no cs s k y, most_bound cs s k i (omega arith) e)
-      ]
-    ]
+most_bound cs s k i h e = omega (arith, left_all cs s k, left_out cs s s i k h e)
 
 most_reached : (cs : List ℕ) (s k : ℕ) → (most cs s k ≡ 0) ⊎ ((i : ℕ) × (i < k) × (is_in s i ≡ true) × (most cs s k ≡ get_or cs (without s i) 0))
 most_reached cs s zero = inl (unfold most in refl)

@@ -23,7 +23,7 @@ pub(crate) struct Left<'a> {
     ghost unsettled: { AllOpen (at_person crew.balances.now) people },
 }
 
-impl<'a> Left<'a> {
+impl Left<'_> {
     // Does `part`, which has the smallest person left, sum to 0 and leave a count that is one less?
     fn reaches(&self, part: u32) -> bool
         requires within { is_part part self.now.people ≡ true }

@@ -19,7 +19,7 @@ fn most_of(counts: &[u8], set: u32) -> u8
     best
 }
 
-impl<'a> Crew<'a> {
+impl Crew<'_> {
     // The count of the set from its sum and the counts of the sets before it.
     fn count_of(&self, sum: i64, counts: &[u8], set: u32) -> u8
         requires small { set < 2 ^ length self.now.balances.now }
