@@ -191,19 +191,21 @@ fn balances_of(book: &Book) -> Vec<i64> {
     cents[..book.people as usize].to_vec()
 }
 
-fn has_person(set: u32, person: usize) -> bool {
-    set & (1 << person) != 0
+/// The people of a set, the smallest first.
+fn people_of(mut set: u32) -> impl Iterator<Item = u32> {
+    std::iter::from_fn(move || {
+        if set == 0 {
+            return None;
+        }
+        let person = set.trailing_zeros();
+        set &= set - 1;
+        Some(person)
+    })
 }
 
 /// The balances of the people of a set together, worked out from nothing.
 fn sum_of(balances: &[i64], set: u32) -> i64 {
-    let mut sum = 0;
-    for (person, cents) in balances.iter().enumerate() {
-        if has_person(set, person) {
-            sum += cents;
-        }
-    }
-    sum
+    people_of(set).map(|person| balances[person as usize]).sum()
 }
 
 /// The greatest number of groups inside a set, from those of the sets before it.
@@ -217,13 +219,7 @@ fn count_of(balances: &[i64], sum: i64, counts: &[u8], set: u32) -> u8 {
     } else if sum == 0 {
         rest + 1
     } else {
-        let mut most = 0;
-        for person in 0..balances.len() {
-            if has_person(set, person) {
-                most = most.max(counts[(set - (1 << person)) as usize]);
-            }
-        }
-        most
+        people_of(set).map(|person| counts[(set - (1 << person)) as usize]).max().unwrap_or(0)
     }
 }
 
@@ -286,10 +282,10 @@ struct Payment {
 fn pay_set(balances: &[i64], set: u32, payments: &mut Vec<Payment>) {
     let mut left = balances.to_vec();
     loop {
-        let Some(from) = (0..left.len()).find(|i| has_person(set, *i) && left[*i] < 0) else {
+        let Some(from) = people_of(set).map(|i| i as usize).find(|i| left[*i] < 0) else {
             return;
         };
-        let Some(to) = (0..left.len()).find(|i| has_person(set, *i) && left[*i] > 0) else {
+        let Some(to) = people_of(set).map(|i| i as usize).find(|i| left[*i] > 0) else {
             return;
         };
         let amount = left[to].min(-left[from]);

@@ -13,6 +13,7 @@ pub enum Unaudited {
     Payment { at: usize },
 }
 
+// By two methods of its own, as `Short` has: no code is generic over what is refused.
 impl Unaudited {
     // Its number in the list of refusals.
     pub fn number(self) -> u8

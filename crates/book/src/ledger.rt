@@ -9,7 +9,7 @@ pub mod adding;
 pub mod reading;
 
 // The lines of a crew, in the order in which they came, each with whether it stands. The room for them is reserved
-// once, so that a line that is taken never wants memory.
+// once, so that a line that is taken never wants memory; `room` is how many there may be, of which a `Vec` may reserve more.
 #[derive(Drop)]
 pub struct Book {
     people: u8,

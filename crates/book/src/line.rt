@@ -9,6 +9,7 @@ pub enum Line {
 }
 
 // A line and, beside it, a weight for each of sixteen people: all 0 where the line is no bill, and from the last person on.
+// By value and of one size, so that a line that is taken wants no memory of its own.
 #[derive(Clone, Copy, Debug, PartialEq, Eq)]
 pub struct Entry {
     pub line: Line,

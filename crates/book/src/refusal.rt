@@ -25,6 +25,7 @@ pub enum Refusal {
     TooManyLines,
 }
 
+// By two methods of its own, as `Short` and `Unaudited` have: no code is generic over what is refused.
 impl Refusal {
     // The refusal's number in the list of refusals.
     pub fn number(self) -> u8

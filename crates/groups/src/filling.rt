@@ -8,7 +8,8 @@ use crate::crew::Crew;
 use crate::short::Short;
 use balances::sheet::Balances;
 
-// The first table that has fewer entries than there are sets.
+// The first table that has fewer entries than there are sets. Both are lent, here and to all who fill them: the caller owns
+// the memory, and they are two slices since each is read on its own.
 pub fn room(balances: &Balances, sums: &[i64], counts: &[u8]) -> Result<(), Short>
     ensures { MatchResult result
         (λ _. too_short (people_of balances.now) sums.now counts.now ≡ None)

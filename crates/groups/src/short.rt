@@ -9,6 +9,7 @@ pub enum Short {
     Counts,
 }
 
+// By two methods of its own: no code is generic over `Short`, `Refusal` and `Unaudited`, so that a trait would add but a name.
 impl Short {
     // Its number in the list of refusals.
     pub fn number(self) -> u8

@@ -3,7 +3,7 @@ ghost use Rattle.std.specs.Prelude.{◌≡◌};
 ghost use Rattle.std.specs.Iterator.{YieldsFirstBy, item_count};
 ghost use Rattle.text.specs.Pieces.{piece, pieces_left, read_piece};
 
-// A line as the input has it: whole, or cut short by the input's end.
+// A line as the input has it: whole, or cut short by the input's end. No `Result`: the book answers both.
 #[derive(Clone, Copy)]
 pub(crate) enum Piece<'a> {
     Whole(&'a [u8]),

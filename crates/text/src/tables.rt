@@ -6,7 +6,7 @@ use std::alloc::{AllocError, Global};
 // Sixteen people have so many sets.
 const SETS: usize = 1 << 16;
 
-// Sums and counts with an entry for each set of sixteen people.
+// Sums and counts with an entry for each set of sixteen people: two lists, as they are lent to what fills them.
 #[derive(Drop)]
 pub(crate) struct Tables {
     pub(crate) sums: Vec<i64>,

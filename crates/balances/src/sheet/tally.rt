@@ -10,7 +10,7 @@ use book::line::{Entry, Line};
 use shares::shares_of;
 
 impl Balances {
-    // The balances of a book's people, by the lines that stand.
+    // The balances of a book's people, by the lines that stand. Not `From`: they are worked out, and the book stays.
     pub fn of(book: &Book) -> Balances
         ensures { Counted (held book.now) result }
     {
@@ -51,6 +51,7 @@ fn take_shares(cents: &mut [i64; 16], shares: &[u32; 16])
     requires { Bounded (2 * most) cents.old }
     ensures { cents.new ≡ less_shares shares.now cents.old }
 {
+    // by place: a proof knows nothing of what a loop over `cents.iter_mut().zip(shares)` writes
     for (person, share) in shares.iter().enumerate() {
         cents[person] -= i64::from(*share);
     }
