@@ -1,9 +1,6 @@
 // What the program's arguments ask for.
-ghost use Rattle.std.specs.Prelude.{◌≡◌, slice_get};
-ghost use Rattle.std.specs.Vec.Iter.{into_iter_items};
+ghost use Rattle.std.specs.Prelude.{◌≡◌};
 ghost use Rattle.purser.specs.Asked.{asked, asked_alone, asked_by, audit_after, audit_of, is_option};
-
-use std::vec::IntoIter;
 
 #[derive(Drop)]
 pub enum Command {
@@ -25,36 +22,48 @@ pub enum Command {
 }
 
 // By the first four arguments, if there are any.
-pub fn asked_for(mut words: IntoIter<String>) -> Command
-    ensures { let word = slice_get (into_iter_items words) in result ≡ asked (word 0) (word 1) (word 2) (word 3) }
+pub fn asked_for(
+    first: Option<String>,
+    second: Option<String>,
+    third: Option<String>,
+    fourth: Option<String>,
+) -> Command
+    ensures { result ≡ asked first second third fourth }
 {
-    match words.next() {
+    match first {
         None => Command::Input,
-        Some(word) if word.as_str() == "--audit" => audit_after(words),
-        Some(word) => asked_alone(word, words.next()),
+        Some(word) if word.as_str() == "--audit" => audit_after(second, third, fourth),
+        Some(word) => asked_alone(word, second),
     }
 }
 
 // By the words after --audit: a file of payments, a file of the book if there is one, and nothing more.
-fn audit_after(mut words: IntoIter<String>) -> Command
-    ensures { let word = slice_get (into_iter_items words) in result ≡ audit_after (word 0) (word 1) (word 2) }
+fn audit_after(payments: Option<String>, book: Option<String>, more: Option<String>) -> Command
+    ensures { result ≡ audit_after payments book more }
 {
-    match words.next() {
+    match payments {
         None => Command::NoPayments,
         Some(payments) if is_option(&payments) => Command::Unknown(payments),
-        Some(payments) => audit_of(payments, words),
+        Some(payments) => audit_of(payments, book, more),
     }
 }
 
 // By a file of payments and the words after it.
-fn audit_of(payments: String, mut words: IntoIter<String>) -> Command
-    ensures { let word = slice_get (into_iter_items words) in result ≡ audit_of payments (word 0) (word 1) }
+fn audit_of(payments: String, book: Option<String>, more: Option<String>) -> Command
+    ensures { result ≡ audit_of payments book more }
 {
-    match words.next() {
-        Some(book) if is_option(&book) => Command::Unknown(book),
-        book => match words.next() {
-            None => Command::Audit { payments, book },
-            Some(word) => Command::Unknown(word),
+    let Some(book) = book else {
+        return Command::Audit {
+            payments,
+            book: None,
+        };
+    };
+    match more {
+        _ if is_option(&book) => Command::Unknown(book),
+        Some(word) => Command::Unknown(word),
+        None => Command::Audit {
+            payments,
+            book: Some(book),
         },
     }
 }

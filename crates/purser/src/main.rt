@@ -60,10 +60,8 @@ fn run(rt: &HostRuntime) -> Result<(), Fault> {
 fn read_arguments(rt: &HostRuntime) -> Result<Command, Fault>
     ensures { FailsBy arguments result }
 {
-    let mut words = env::args(rt).map_err(Fault::Arguments)?;
-    // the program's own name
-    words.next();
-    Ok(asked_for(words))
+    let mut words = env::args(rt).map_err(Fault::Arguments)?.skip(1);
+    Ok(asked_for(words.next(), words.next(), words.next(), words.next()))
 }
 
 // The book of a file, or of standard input where there is no name.
