@@ -1,7 +1,7 @@
 -- What the program's arguments ask for.
 use Rattle.std.specs.Prelude.{ℕ, Bool, cond, List, Some, None, string_bytes, codes, Option, String, ◌==◌, slice_index}
 use Rattle.purser.specs.declared.command.Command.{Command}
-use Rattle.purser.specs.declared.command.Command.TheVariants.{Audit, File, Help, Input, NoPayments, Unknown, Version}
+use Rattle.purser.specs.declared.command.Command.TheVariants.{Audit, Help, NoPayments, Report, Unknown, Version}
 use Rattle.std.specs.declared.alloc.Global.{Global}
 use Rattle.std.specs.Str.{bytes_eq}
 
@@ -17,12 +17,11 @@ is_option word = slice_index word 0 == 45
 abbrev pub asked_by : Word → Command
 asked_by word =
     cond (bytes_eq (string_bytes word) (codes "--help")) Help
-    (cond (bytes_eq (string_bytes word) (codes "--version")) Version (cond (is_option (string_bytes word)) (Unknown word) (File word)))
+    (cond (bytes_eq (string_bytes word) (codes "--version")) Version (cond (is_option (string_bytes word)) (Unknown word) (Report (Some word))))
 
 -- where a word follows, which means nothing: the first word that means nothing
 abbrev pub but_followed : Command → Word → Command
-but_followed Input second = Unknown second
-but_followed (File name) second = Unknown second
+but_followed (Report book) second = Unknown second
 but_followed (Audit payments book) second = Unknown second
 but_followed NoPayments second = Unknown second
 but_followed Help second = Unknown second
@@ -51,5 +50,5 @@ audit_after (Some payments) book more = unless_option payments (audit_of payment
 
 -- no word asks for standard input
 abbrev pub asked : Option Word → Option Word → Option Word → Option Word → Command
-asked None second third fourth = Input
+asked None second third fourth = Report None
 asked (Some word) second third fourth = cond (bytes_eq (string_bytes word) (codes "--audit")) (audit_after second third fourth) (asked_alone word second)

@@ -4,11 +4,11 @@ ghost use Rattle.purser.specs.Asked.{asked, asked_alone, asked_by, audit_after, 
 
 #[derive(Drop)]
 pub enum Command {
-    // a report on standard input
-    Input,
-    // a report on a file
-    File(String),
-    // the verdict on the payments of a file, for the book of a file or of standard input
+    // a report on the book of a file or of standard input
+    Report {
+        book: Option<String>,
+    },
+    // the verdict on the payments of a file, for such a book
     Audit {
         payments: String,
         book: Option<String>,
@@ -17,7 +17,7 @@ pub enum Command {
     NoPayments,
     Help,
     Version,
-    // an argument that means nothing here
+    // an argument that means nothing here: an answer as any, by the definition `asked`
     Unknown(String),
 }
 
@@ -31,7 +31,7 @@ pub fn asked_for(
     ensures { result ≡ asked first second third fourth }
 {
     match first {
-        None => Command::Input,
+        None => Command::Report { book: None },
         Some(word) if word.as_str() == "--audit" => audit_after(second, third, fourth),
         Some(word) => asked_alone(word, second),
     }
@@ -87,7 +87,7 @@ fn asked_by(word: String) -> Command
         "--help" => Command::Help,
         "--version" => Command::Version,
         text if is_option(text) => Command::Unknown(word),
-        _ => Command::File(word),
+        _ => Command::Report { book: Some(word) },
     }
 }
 

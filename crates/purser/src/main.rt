@@ -43,8 +43,7 @@ fn main(rt: HostRuntime) -> ExitCode {
 // Does what the arguments ask for.
 fn run(rt: &HostRuntime) -> Result<(), Fault> {
     match read_arguments(rt)? {
-        Command::Input => print_made(rt, report(rt.alloc(), &read_input(rt)?)),
-        Command::File(name) => print_made(rt, report(rt.alloc(), &read_file(rt, name)?)),
+        Command::Report { book } => print_made(rt, report(rt.alloc(), &read_book(rt, book)?)),
         Command::Audit { payments, book } => {
             let payments = read_file(rt, payments)?;
             print_made(rt, verdict(rt.alloc(), &read_book(rt, book)?, &payments))
