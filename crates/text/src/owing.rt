@@ -12,9 +12,8 @@ use std::alloc::AllocError;
 pub fn write_balances(balances: &Balances, text: &mut String) -> Result<(), AllocError>
     ensures { OnOk result (string_bytes text.new ≡ string_bytes text.old ++ balances_said (sides_of balances.now)) }
 {
-    // a person's number is a byte, and enumerate() would count in usize
-    for person in 0..balances.people() {
-        if let Some(side) = Side::of(person, balances.balance(person)) {
+    for (person, balance) in (0..balances.people()).zip(balances.numbers()) {
+        if let Some(side) = Side::of(person, *balance) {
             write_line(text, side)?;
         }
     }
