@@ -13,9 +13,10 @@ pub fn write_balances(balances: &Balances, text: &mut String) -> Result<(), Allo
     ensures { OnOk result (string_bytes text.new ≡ string_bytes text.old ++ balances_said (sides_of balances.now)) }
 {
     for (person, balance) in (0..balances.people()).zip(balances.numbers()) {
-        if let Some(side) = Side::of(person, *balance) {
-            write_line(text, side)?;
-        }
+        let Some(side) = Side::of(person, *balance) else {
+            continue;
+        };
+        write_line(text, side)?;
     }
     Ok(())
 }

@@ -11,15 +11,15 @@ loop-person-init c =
     let begun = none_said c.args.balances.now _ _ _ _ zip.first c.people.ensures (zip.second.0 ∙ c.numbers.ensures.all) in
     rw c.into_iter-person-iterator.ensures.into_iter_gives begun
 
-pub loop-person-preserved-in-Continue-1 : goal.loop-person-preserved-in-Continue-1
-loop-person-preserved-in-Continue-1 c =
+pub loop-person-preserved : goal.loop-person-preserved
+loop-person-preserved c =
     let fits : FitsSigned w64 c.in-Some.balance.now = search rules in
     let side = simp to_z-of_z at c.of.ensures in
     let line : string_bytes c.write_line.new.text ≡ string_bytes c.loop-person.text ++ side_line c.of.result = rw c.in-Some-of.is c.in_ok-write_line.ensures in
     next_said c.args.balances.now _ _ _ _ _ _ _ _ _ _ c.loop-person.invariant c.in-Some.ensures.steps.0 c.in-Some.ensures.steps.1 side line
 
-pub loop-person-preserved : goal.loop-person-preserved
-loop-person-preserved c =
+pub loop-person-preserved-in_default : goal.loop-person-preserved-in_default
+loop-person-preserved-in_default c =
     let fits : FitsSigned w64 c.in-Some.balance.now = search rules in
     let side = simp to_z-of_z at c.of.ensures in
     let line : string_bytes c.loop-person.text ≡ string_bytes c.loop-person.text ++ side_line c.of.result = rw c.in_default.is (sym (append-nil _)) in
