@@ -59,7 +59,7 @@ fn judge(heap: Global, book: &Book, payments: &[&[u8]]) -> Result<Outcome, Alloc
         Ok(verdict) => Ok(Outcome::Judged(verdict)),
         Err(Unaudited::Payment { at }) => Ok(Outcome::Unsound { at }),
         // both tables have an entry for each set
-        Err(Unaudited::Short(_)) => unreachable(),
+        Err(Unaudited::Short(_)) => unreachable!(),
     }
 }
 

@@ -78,6 +78,7 @@ pub(crate) fn people_and_lines(input: &[u8]) -> (u8, &[u8])
 {
     match input {
         [people, lines @ ..] => (*people, lines),
+        // a book of no people, which is refused as a byte of 0 is
         [] => (0, input),
     }
 }

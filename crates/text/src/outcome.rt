@@ -24,6 +24,7 @@ impl fmt::Display for Outcome {
         match self {
             Outcome::NoCrew => write!(f, "{}", Refusal::CrewSize),
             Outcome::Unsound { at } => {
+                // one is printed only here, so `Unaudited` has no words of its own
                 let number = Unaudited::Payment { at: *at }.number();
                 write!(f, "payment refused {number} at {at}")
             }

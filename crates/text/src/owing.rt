@@ -12,11 +12,11 @@ use std::alloc::AllocError;
 pub fn write_balances(balances: &Balances, text: &mut String) -> Result<(), AllocError>
     ensures { OnOk result (string_bytes text.new ≡ string_bytes text.old ++ balances_said (sides_of balances.now)) }
 {
-    // a person's number is a byte, and enumerate() would count in usize
-    for person in 0..balances.people() {
-        if let Some(side) = Side::of(person, balances.balance(person)) {
-            write_line(text, side)?;
-        }
+    for (person, balance) in (0..balances.people()).zip(balances.numbers()) {
+        let Some(side) = Side::of(person, *balance) else {
+            continue;
+        };
+        write_line(text, side)?;
     }
     Ok(())
 }

@@ -37,10 +37,10 @@ pub fn payments_of(heap: Global, book: &Book) -> Result<Vec<Payment>, AllocError
     } = Tables::new(heap)?;
     match settle(heap, book, &mut sums, &mut counts) {
         Ok(payments) => Ok(payments),
-        // an arm, since no crate but theirs could write a `From` between these two
+        // an arm and no `From`, since a table that is too short is no want of memory
         Err(Ungrouped::Memory) => Err(AllocError),
         // both tables have an entry for each set
-        Err(Ungrouped::Short(_)) => unreachable(),
+        Err(Ungrouped::Short(_)) => unreachable!(),
     }
 }
 
