@@ -2,46 +2,52 @@
 use crate::sheet::Balances;
 use crate::unbalanced::Unbalanced::{self, NotEven, OutOfRange, TooMany};
 use book::ledger::Book;
+use std::process::Abort;
 use std::test::Fail;
 
-// Each line of a book for three, and each person's balance after it.
-#[test]
-fn lines_taken_back(rt: HostRuntime) -> Result<(), Fail> {
+// A book for three has these balances after each line.
+fn balances_after(
+    rt: &(impl Abort + AllocGlobal),
+    table: &[(&[u8], [i64; 3])],
+) -> Result<(), Fail> {
     let mut book = Book::new(rt.alloc(), 3, 8)?;
-    let table: [(&[u8], [i64; 3]); 4] = [
-        // 100 paid by 0 for three: shares 33, 33, 34
-        (&[1, 0, 100, 0, 0, 0, 1, 0, 1, 0, 1, 0], [67, -33, -34]),
-        // 10 from 1 to 0
-        (&[2, 1, 0, 10, 0, 0, 0], [57, -23, -34]),
-        // the bill is taken back, and then the payment
-        (&[3, 0, 0], [-10, 10, 0]),
-        (&[3, 1, 0], [0, 0, 0]),
-    ];
     for (line, cents) in table {
         book.add(line)?;
         let balances = Balances::of(&book);
-        assert_eq!(rt; [0, 1, 2].map(|person| balances.balance(person)), cents);
+        assert_eq!(rt; [0, 1, 2].map(|person| balances.balance(person)), *cents);
     }
     Ok(())
+}
+
+#[test]
+fn lines_taken_back(rt: HostRuntime) -> Result<(), Fail> {
+    balances_after(
+        &rt,
+        &[
+            // 100 paid by 0 for three: shares 33, 33, 34
+            (&[1, 0, 100, 0, 0, 0, 1, 0, 1, 0, 1, 0], [67, -33, -34]),
+            // 10 from 1 to 0
+            (&[2, 1, 0, 10, 0, 0, 0], [57, -23, -34]),
+            // the bill is taken back, and then the payment
+            (&[3, 0, 0], [-10, 10, 0]),
+            (&[3, 1, 0], [0, 0, 0]),
+        ],
+    )
 }
 
 // Payments made already; then 90 paid by 0 for three, 1 pays its 30, and 60 for itself alone: it stays as it was.
 #[test]
 fn payments_and_somebody_even(rt: HostRuntime) -> Result<(), Fail> {
-    let mut book = Book::new(rt.alloc(), 3, 8)?;
-    let table: [(&[u8], [i64; 3]); 5] = [
-        (&[2, 1, 0, 10, 0, 0, 0], [-10, 10, 0]),
-        (&[2, 0, 1, 10, 0, 0, 0], [0, 0, 0]),
-        (&[1, 0, 90, 0, 0, 0, 1, 0, 1, 0, 1, 0], [60, -30, -30]),
-        (&[2, 1, 0, 30, 0, 0, 0], [30, 0, -30]),
-        (&[1, 1, 60, 0, 0, 0, 0, 0, 7, 0, 0, 0], [30, 0, -30]),
-    ];
-    for (line, cents) in table {
-        book.add(line)?;
-        let balances = Balances::of(&book);
-        assert_eq!(rt; [0, 1, 2].map(|person| balances.balance(person)), cents);
-    }
-    Ok(())
+    balances_after(
+        &rt,
+        &[
+            (&[2, 1, 0, 10, 0, 0, 0], [-10, 10, 0]),
+            (&[2, 0, 1, 10, 0, 0, 0], [0, 0, 0]),
+            (&[1, 0, 90, 0, 0, 0, 1, 0, 1, 0, 1, 0], [60, -30, -30]),
+            (&[2, 1, 0, 30, 0, 0, 0], [30, 0, -30]),
+            (&[1, 1, 60, 0, 0, 0, 0, 0, 7, 0, 0, 0], [30, 0, -30]),
+        ],
+    )
 }
 
 #[test]

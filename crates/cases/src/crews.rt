@@ -12,11 +12,12 @@ use std::test::Fail;
 // A payment as from, to and amount.
 type Row = (u8, u8, u64);
 
-// A payment as a row.
-fn row_of(payment: &Payment) -> Row
-    ensures { result ≡ (payment.now.from, payment.now.to, payment.now.amount) }
+// The payment of a row.
+fn pays(row: Row) -> Payment
+    ensures { result ≡ record { from = row.0; to = row.1; amount = row.2 } }
 {
-    (payment.from, payment.to, payment.amount)
+    let (from, to, amount) = row;
+    Payment { from, to, amount }
 }
 
 // The number and place of a table that was too short, if one was.
@@ -54,8 +55,8 @@ fn example_crews(rt: HostRuntime) -> Result<(), Fail> {
         let mut counts = [0u8; 64];
         let balances = Balances::from_cents(cents)?;
         let payments = settle_balances(rt.alloc(), &balances, &mut sums, &mut counts)?;
-        let paid: Vec<Row> = payments.iter().map(row_of).collect(rt.alloc())?;
-        assert_eq!(rt; paid.as_slice(), rows);
+        let expected: Vec<Payment> = rows.iter().copied().map(pays).collect(rt.alloc())?;
+        assert_eq!(rt; payments.as_slice(), expected.as_slice());
     }
     Ok(())
 }
@@ -68,8 +69,8 @@ fn example_book(rt: HostRuntime) -> Result<(), Fail> {
     let mut sums = [9i64; 9];
     let mut counts = [9u8; 9];
     let payments = settle(rt.alloc(), &book, &mut sums, &mut counts)?;
-    let paid: Vec<Row> = payments.iter().map(row_of).collect(rt.alloc())?;
-    assert_eq!(rt; paid.as_slice(), [(1, 0, 23), (2, 0, 34)].as_slice());
+    let expected = [(1, 0, 23), (2, 0, 34)].map(pays);
+    assert_eq!(rt; payments.as_slice(), expected.as_slice());
     // the sums of the sets of 57, -23 and -34, and the entry past them as it was
     assert_eq!(rt; sums, [0, 57, -23, 34, -34, 23, -57, 0, 9]);
     assert_eq!(rt; counts, [0, 0, 0, 0, 0, 0, 0, 1, 9]);
