@@ -18,10 +18,11 @@ use book::ledger::Book;
 use groups::filling::room;
 use groups::grouping::group_people;
 use groups::ungrouped::Ungrouped;
+use shares::MAX_PEOPLE;
 use std::alloc::Global;
 
 // Each payment closes somebody, so that there are fewer payments than people.
-const MOST_PAYMENTS: usize = 16;
+const MOST_PAYMENTS: usize = MAX_PEOPLE;
 
 // The payments that settle a book. No other list that settles it has fewer payments, and none moves less money.
 pub fn settle(

@@ -11,6 +11,7 @@ use crate::tally::Tally;
 use crate::unaudited::Unaudited;
 use balances::sheet::Balances;
 use settlement::payment::Payment;
+use shares::MAX_PEOPLE;
 
 // The tally of all payments among the people, or the first payment that is not in order.
 pub(crate) fn add_up(balances: &Balances, payments: &[&[u8]]) -> Result<Tally, Unaudited>
@@ -32,7 +33,7 @@ impl Tally {
         ensures { (n : ℕ) → Tallied n [] result }
     {
         Tally {
-            net: [0; 16],
+            net: [0; MAX_PEOPLE],
             moved: 0,
         }
     }

@@ -7,14 +7,14 @@ ghost use Rattle.book.specs.View.{held};
 use crate::sheet::Balances;
 use book::ledger::Book;
 use book::line::{Entry, Line};
-use shares::shares_of;
+use shares::{MAX_PEOPLE, shares_of};
 
 impl Balances {
-    // The balances of a book's people, by the lines that stand. Not `From`: they are worked out, and the book stays.
+    // The balances of a book's people, by the lines that stand. Not `From`: the balances are worked out.
     pub fn of(book: &Book) -> Balances
         ensures { Counted (held book.now) result }
     {
-        let mut cents = [0; 16];
+        let mut cents = [0; MAX_PEOPLE];
         for kept in book.lines() {
             if kept.stands {
                 count_line(&mut cents, kept.entry);
