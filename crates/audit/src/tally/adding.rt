@@ -19,9 +19,7 @@ pub(crate) fn add_up(balances: &Balances, payments: &[&[u8]]) -> Result<Tally, U
 {
     let mut tally = Tally::new();
     for (at, bytes) in payments.iter().enumerate() {
-        let Some(payment) = decode(balances.people(), at, bytes) else {
-            return Err(Unaudited::Payment { at });
-        };
+        let payment = decode(balances.people(), at, bytes).ok_or(Unaudited::Payment { at })?;
         tally.add(payment);
     }
     Ok(tally)
