@@ -8,6 +8,7 @@ use crate::sheet::Balances;
 use book::ledger::Book;
 use book::line::{Entry, Line};
 use shares::{MAX_PEOPLE, shares_of};
+use std::array;
 
 impl Balances {
     // The balances of a book's people, by the lines that stand. Not `From`: the balances are worked out.
@@ -51,8 +52,6 @@ fn take_shares(cents: &mut [i64; 16], shares: &[u32; 16])
     requires { Bounded (2 * most) cents.old }
     ensures { cents.new ≡ less_shares shares.now cents.old }
 {
-    // by place: a proof knows nothing of what a loop over `cents.iter_mut().zip(shares)` writes
-    for (person, share) in shares.iter().enumerate() {
-        cents[person] -= i64::from(*share);
-    }
+    // a closure of `from_fn` knows that its index is below 16
+    *cents = array::from_fn(|person| cents[person] - i64::from(shares[person]));
 }
