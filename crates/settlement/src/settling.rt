@@ -25,6 +25,7 @@ use std::alloc::Global;
 const MOST_PAYMENTS: usize = MAX_PEOPLE;
 
 // The payments that settle a book. No other list that settles it has fewer payments, and none moves less money.
+// The tables are lent: the caller owns the memory.
 pub fn settle(
     heap: Global,
     book: &Book,
@@ -43,6 +44,7 @@ pub fn settle(
 }
 
 // The same for balances that did not come from a book.
+// The tables are lent: the caller owns the memory.
 pub fn settle_balances(
     heap: Global,
     balances: &Balances,
