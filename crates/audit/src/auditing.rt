@@ -19,6 +19,7 @@ use book::ledger::Book;
 use groups::filling::{fill_tables, room};
 
 // The verdict on payments for a book, each ten bytes: from, to, and eight bytes of amount, low byte first.
+// The tables are lent: the caller owns the memory.
 pub fn audit(
     book: &Book,
     payments: &[&[u8]],
@@ -34,6 +35,7 @@ pub fn audit(
 }
 
 // The same for balances that did not come from a book.
+// The tables are lent: the caller owns the memory.
 pub fn audit_balances(
     balances: &Balances,
     payments: &[&[u8]],
@@ -54,6 +56,7 @@ pub fn audit_balances(
 }
 
 // The set of all people: the last entry that is filled in the tables.
+// Worked out here, since `groups` has how many sets there are for itself alone.
 fn everyone(balances: &Balances) -> usize
     ensures { result ≡ everyoneOf (people_of balances.now) }
 {

@@ -32,13 +32,3 @@ pub moved_bounded :
     (xs : List ℤ) (p i m : ℕ) (z v : ℤ) → p < length xs → v ≡ at_person xs p +ℤ z → nat_abs (at_person xs i) ≤ m →
     nat_abs (at_person (set xs p v) i) ≤ m + nat_abs z
 moved_bounded xs p i m z v there is small = let at = at_moved xs p i z v there is in grind (arith, ints, nat_tests)
-
--- one number more is written over by f of its person, those after it stay as they were
-pub written_more :
-    (f : ℕ → ℤ) (xs ys : List ℤ) (i : ℕ) (v : ℤ) → i < length xs → v ≡ f i → ((k : ℕ) → k < i → at_person xs k ≡ f k) →
-    ((k : ℕ) → i ≤ k → at_person xs k ≡ at_person ys k) →
-    ((k : ℕ) → k < i + 1 → at_person (set xs i v) k ≡ f k) × ((k : ℕ) → i + 1 ≤ k → at_person (set xs i v) k ≡ at_person ys k)
-written_more f xs ys i v there is below above = (
-  λ k l. let at = at_written xs i k v there in grind (arith, nat_tests, below k),
-  λ k l. let at = at_written xs i k v there in grind (arith, nat_tests, above k),
-)

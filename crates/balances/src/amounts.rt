@@ -9,7 +9,8 @@ pub fn debt(cents: i64) -> u64
     cents.min(0).unsigned_abs()
 }
 
-// What a person with this number of cents is owed. Beside `debt` and not one with it: each is named where it is used.
+// What a person with this number of cents is owed.
+// `debt` and `credit` are two functions, since both are handed on as functions (settlement's tables of amounts).
 pub fn credit(cents: i64) -> u64
     ensures { result ≡ credit cents }
 {

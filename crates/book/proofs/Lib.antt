@@ -2,6 +2,7 @@ pub mod Answered
 pub mod ByRows
 pub mod Firsts
 pub mod Lookup
+pub mod Made
 pub mod Marks
 pub mod Passed
 pub mod Sound

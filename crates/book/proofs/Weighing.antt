@@ -1,12 +1,11 @@
 -- A bill's weights: how they are read from pairs of bytes, and what looking for a heavy one and for one above 0 says.
-use Rattle.std.proofs.Common.{◌≡◌, ℕ, zero, suc, ◌+◌, ◌-◌, ◌*◌, ◌/◌, ◌<◌, ◌≤◌, Bool, true, false, cond, not, eqb, ltb, List, [], ◌∷◌, ◌++◌, map, length, get_or, take, drop, drop-drop, replicate, All, Some, None, Ok, Option, Result, position, ⊎_elim, inl, inr, add-zero, sym, refl, ap, ◌∙◌, arith}
+use Rattle.std.proofs.Common.{◌≡◌, ℕ, zero, suc, ◌+◌, ◌-◌, ◌*◌, ◌/◌, ◌<◌, ◌≤◌, Bool, true, false, cond, not, eqb, ltb, List, [], ◌∷◌, ◌++◌, map, length, get_or, take, drop, drop-drop, replicate, All, Some, None, Ok, Option, Result, position, inl, inr, add-zero, sym, refl, ap, ◌∙◌, arith}
 use Rattle.shares.specs.Bill.{total}
 use Rattle.shares.proofs.Totals.{total_next_le}
 use Rattle.std.proofs.lemmas.List.FromFn.{fill_by_all, length-map-range_with_len, get_or-map-range_with_len}
 use Rattle.std.proofs.lemmas.List.{get_or-append_right, get_or-drop, get_or-replicate, get_or-take, get_or_append_left, get_or_default, get_or_past, length-append, length-replicate}
-use Rattle.std.proofs.lemmas.Bool.{cases_eq, cases_lt, eq-eqb, ne_eqb}
+use Rattle.std.proofs.lemmas.Bool.{cases_lt, eq-eqb, ne_eqb}
 use Rattle.std.proofs.lemmas.Bool.Decides.{nat_tests}
-use Rattle.std.specs.Array.{IsFromFnResultFrom}
 use Rattle.std.specs.Bool.{MatchBool}
 use Rattle.std.specs.List.{Any, range_with_len}
 use Rattle.std.specs.Option.{option_map}
@@ -17,7 +16,6 @@ use Rattle.book.specs.declared.line.Entry.{Entry}
 use Rattle.book.specs.declared.line.Line.TheVariants.{Bill}
 use Rattle.book.specs.declared.refusal.Refusal.{Refusal}
 use Rattle.book.specs.declared.refusal.Refusal.TheVariants.{UnknownPerson, AmountOutOfRange, WeightTooLarge, NoWeight}
-use denote.Param.Members.{Mut, Called}
 
 total_none : (ws : List ℕ) → All (λ w. w ≡ 0) ws → total ws ≡ 0
 unfolding total
@@ -105,17 +103,6 @@ pair_at c k xs h =
       get_or-drop (2 * k) xs 1 0,
       ap (λ i. get_or xs i 0) (add-zero (2 * k)),
     )
-
--- a function of the index alone, called at each number below n, gives its value at each
-pub from_fn_at : {F B : Type 0} (g : Mut F (ℕ × Unit {0}) B) (v : F → ℕ → B) → ((p q : F) (k : ℕ) (y : B) → Called g p (k, tt) y q → (q ≡ p) × (y ≡ v p k)) →
-    (f : F) (ys : List B) (i n : ℕ) → IsFromFnResultFrom g f ys i n → (j : ℕ) (d : B) → i ≤ j → j < i + n → get_or ys j d ≡ v f j
-from_fn_at g v pure f ys i zero made j d le lt = absurd (omega arith)
-from_fn_at g v pure f ys i (suc n) made j d le lt =
-    let here = pure f made.0 i made.1 made.3 in
-    ⊎_elim
-    (λ (is : i ≡ j). ap (λ k. get_or ys k d) (sym is) ∙ made.2.1 d ∙ here.1 ∙ ap (v f) is)
-    (λ isnt. from_fn_at g v pure made.0 ys (i + 1) n made.4 j d (omega arith) (omega arith) ∙ ap (λ p. v p j) here.0)
-    (cases_eq i j)
 
 after_six : (bs : List ℕ) (k : ℕ) → two_bytes (drop 6 bs) (2 * k) ≡ two_bytes bs (weight_at k)
 after_six bs k =

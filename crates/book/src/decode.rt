@@ -6,13 +6,14 @@ ghost use Rattle.book.specs.Layout.{kind_of, weights_in};
 use crate::kind::Kind;
 use crate::line::{Entry, Line};
 use crate::refusal::Refusal;
+use shares::MAX_PEOPLE;
 use std::array;
 
 const MAX_AMOUNT: u32 = 1_000_000_000;
 
 const MAX_WEIGHT: u16 = 1_000;
 
-const NO_WEIGHTS: [u16; 16] = [0; 16];
+const NO_WEIGHTS: [u16; 16] = [0; MAX_PEOPLE];
 
 // The entry that the bytes say for so many people, or the refusal of what is wrong in them. Each kind's pattern is as
 // long as its lines are.
@@ -28,7 +29,7 @@ pub(crate) fn decode(people: u8, bytes: &[u8]) -> Result<Entry, Refusal>
         (Kind::Bill, &[_, payer, a, b, c, d, ref rest @ ..])
             if rest.len() == 2 * usize::from(people) => {
             let cents = u32::from_le_bytes([a, b, c, d]);
-            let (pairs, _) = rest.as_chunks();
+            let (pairs, _) = rest.as_chunks::<2>();
             bill(people, payer, cents, weights(pairs))
         }
         (Kind::Payment, &[_, from, to, a, b, c, d]) => {
@@ -45,6 +46,7 @@ pub(crate) fn decode(people: u8, bytes: &[u8]) -> Result<Entry, Refusal>
 }
 
 // The kind that the first byte names; an empty line has none.
+// An `Option` and not the refusal, since each check of a line returns its own by `let .. else`.
 pub(crate) fn kind_at_front(bytes: &[u8]) -> Option<Kind>
     ensures { result ≡ kind_of bytes.now }
 {

@@ -9,7 +9,7 @@ pub enum Line {
 }
 
 // A line and, beside it, a weight for each of sixteen people: all 0 where the line is no bill, and from the last person on.
-// By value and of one size, so that a line that is taken wants no memory of its own.
+// By value and of one size, by a rule of the project: a line that is taken wants no memory of its own.
 #[derive(Clone, Copy, Debug, PartialEq, Eq)]
 pub struct Entry {
     pub line: Line,
@@ -17,6 +17,7 @@ pub struct Entry {
 }
 
 // A line that was taken, and whether it stands: no later line took it back.
+// No `Option`, since a line that was taken back is still answered by its number.
 #[derive(Clone, Copy, Debug, PartialEq, Eq)]
 pub struct Kept {
     pub entry: Entry,

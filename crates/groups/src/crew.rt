@@ -20,17 +20,19 @@ pub(crate) struct Crew<'a> {
     ghost even: { set_sum balances.now (everyone (length balances.now)) ≡ pos 0 },
 }
 
-impl<'a> Crew<'a> {
-    // The people who are there.
-    pub(crate) fn of(balances: &'a Balances) -> Crew<'a>
-        ensures all { result.balances.now ≡ numbers_of balances.now }
-        ensures each { length result.balances.now ≡ people_of balances.now }
-    {
+// Lends the numbers of the people who are there.
+impl<'a> From<&'a Balances> for Crew<'a> {
+    ghost from_gives = { λ lent crew. (crew.balances.now ≡ numbers_of lent.now)
+        × (length crew.balances.now ≡ people_of lent.now) };
+
+    fn from(balances: &'a Balances) -> Crew<'a> {
         Crew {
             balances: balances.numbers(),
         }
     }
+}
 
+impl<'a> Crew<'a> {
     // How many they are.
     pub(crate) fn people(&self) -> u32
         ensures { result ≡ length self.now.balances.now }
@@ -50,7 +52,7 @@ impl<'a> Crew<'a> {
         ensures { result ≡ open_of (at_person self.now.balances.now) (length self.now.balances.now) }
     {
         let mut set: u32 = 0;
-        // a `for`, which knows that nobody's number is above 15
+        // by a `for`, since a closure would not know that `person` is below 16
         for (person, balance) in self.balances.iter().enumerate() {
             if *balance != 0 {
                 set += 1 << person;

@@ -8,14 +8,14 @@ use crate::crew::Crew;
 use crate::short::Short;
 use balances::sheet::Balances;
 
-// The first table that has fewer entries than there are sets. Both are lent, here and to all who fill them: the caller owns
-// the memory, and they are two slices since each is read on its own.
+// The first table that has fewer entries than there are sets.
+// Both are lent, as two slices, here and to all who fill or read them: the caller owns the memory.
 pub fn room(balances: &Balances, sums: &[i64], counts: &[u8]) -> Result<(), Short>
     ensures { MatchResult result
         (λ _. too_short (people_of balances.now) sums.now counts.now ≡ None)
         (λ e. too_short (people_of balances.now) sums.now counts.now ≡ Some e) }
 {
-    let sets = Crew::of(balances).sets() as usize;
+    let sets = Crew::from(balances).sets() as usize;
     if sums.len() < sets {
         return Err(Short::Sums);
     }
@@ -26,6 +26,7 @@ pub fn room(balances: &Balances, sums: &[i64], counts: &[u8]) -> Result<(), Shor
 }
 
 // Writes the sum and the count of every set into the tables; entries past those stay as they are.
+// The tables are lent: the caller owns the memory.
 pub fn fill_tables(balances: &Balances, sums: &mut [i64], counts: &mut [u8]) -> Result<(), Short>
     ensures { MatchResult result
         (λ _. (too_short (people_of balances.now) sums.old counts.old ≡ None)
@@ -35,6 +36,6 @@ pub fn fill_tables(balances: &Balances, sums: &mut [i64], counts: &mut [u8]) -> 
         × Kept sums.old sums.new counts.old counts.new) }
 {
     room(balances, sums, counts)?;
-    Crew::of(balances).fill(sums, counts);
+    Crew::from(balances).fill(sums, counts);
     Ok(())
 }

@@ -10,6 +10,7 @@ use crate::crew::Crew;
 use crate::sets::{Subsets, without_lowest};
 
 // The people of a crew whose groups are still to be fixed, who all are open and come out even, with the crew's filled tables.
+// Two lists, since the tables are lent so: the caller owns the memory.
 #[derive(Drop)]
 pub(crate) struct Left<'a> {
     pub(crate) crew: Crew<'a>,

@@ -13,6 +13,7 @@ use balances::sheet::Balances;
 use std::alloc::Global;
 
 // The groups of people who come out even together, as many as can be and fixed by rule, and both tables written.
+// The tables are lent: the caller owns the memory.
 pub fn group_people(
     heap: Global,
     balances: &Balances,
@@ -27,7 +28,7 @@ pub fn group_people(
         × Kept sums.old sums.new counts.old counts.new) }
 {
     room(balances, sums, counts)?;
-    let crew = Crew::of(balances);
+    let crew = Crew::from(balances);
     // memory for the groups is reserved before the first write
     let mut groups = Vec::with_capacity(heap, crew.people() as usize)?;
     crew.fill(sums, counts);

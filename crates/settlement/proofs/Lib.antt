@@ -12,7 +12,6 @@ pub mod Books
 pub mod Carried
 pub mod Steps
 pub mod Tables
-pub mod Made
 pub mod Read
 pub mod Turns
 pub mod Rounds

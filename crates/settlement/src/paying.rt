@@ -33,6 +33,7 @@ fn pay_set(balances: &Balances, set: u32, payments: &mut Vec<Payment>)
     let people = balances.people();
     let mut owes = amounts(balances, debt);
     let mut owed = amounts(balances, credit);
+    // a `for`, since it ends of itself, where a `while let` would want a measure
     for _turn in 0..people {
         let (Some(from), Some(to)) = (
             first_with(people, set, &owes),
@@ -47,7 +48,7 @@ fn pay_set(balances: &Balances, set: u32, payments: &mut Vec<Payment>)
     }
 }
 
-// The smallest person of the set whose amount is above 0.
+// The smallest person of the set whose amount is above 0, by `.get(..)`: a closure has no bound on what it indexes.
 fn first_with(people: u8, set: u32, amounts: &[u64; 16]) -> Option<u8>
     ensures { result ≡ first_of people (has (is_in set) (amount_at amounts.now)) }
 {

@@ -18,12 +18,14 @@ use book::ledger::Book;
 use groups::filling::room;
 use groups::grouping::group_people;
 use groups::ungrouped::Ungrouped;
+use shares::MAX_PEOPLE;
 use std::alloc::Global;
 
 // Each payment closes somebody, so that there are fewer payments than people.
-const MOST_PAYMENTS: usize = 16;
+const MOST_PAYMENTS: usize = MAX_PEOPLE;
 
 // The payments that settle a book. No other list that settles it has fewer payments, and none moves less money.
+// The tables are lent: the caller owns the memory.
 pub fn settle(
     heap: Global,
     book: &Book,
@@ -42,6 +44,7 @@ pub fn settle(
 }
 
 // The same for balances that did not come from a book.
+// The tables are lent: the caller owns the memory.
 pub fn settle_balances(
     heap: Global,
     balances: &Balances,

@@ -31,7 +31,7 @@ pub fn shares_of(amount: u32, weights: &[u16; 16]) -> [u32; 16]
     ensures { (payer : ℕ) → result ≡ all_shares (billed payer amount weights.now) }
 {
     let all = total_weight(weights);
-    let mut shares = [0; 16];
+    let mut shares = [0; MAX_PEOPLE];
     let mut part = 0;
     let mut before = 0;
     // by place: a proof knows nothing of what a loop over `shares.iter_mut().zip(weights)` writes

@@ -11,6 +11,7 @@ use crate::tally::Tally;
 use crate::unaudited::Unaudited;
 use balances::sheet::Balances;
 use settlement::payment::Payment;
+use shares::MAX_PEOPLE;
 
 // The tally of all payments among the people, or the first payment that is not in order.
 pub(crate) fn add_up(balances: &Balances, payments: &[&[u8]]) -> Result<Tally, Unaudited>
@@ -18,9 +19,7 @@ pub(crate) fn add_up(balances: &Balances, payments: &[&[u8]]) -> Result<Tally, U
 {
     let mut tally = Tally::new();
     for (at, bytes) in payments.iter().enumerate() {
-        let Some(payment) = decode(balances.people(), at, bytes) else {
-            return Err(Unaudited::Payment { at });
-        };
+        let payment = decode(balances.people(), at, bytes).ok_or(Unaudited::Payment { at })?;
         tally.add(payment);
     }
     Ok(tally)
@@ -32,7 +31,7 @@ impl Tally {
         ensures { (n : ℕ) → Tallied n [] result }
     {
         Tally {
-            net: [0; 16],
+            net: [0; MAX_PEOPLE],
             moved: 0,
         }
     }

@@ -7,14 +7,15 @@ ghost use Rattle.book.specs.View.{held};
 use crate::sheet::Balances;
 use book::ledger::Book;
 use book::line::{Entry, Line};
-use shares::shares_of;
+use shares::{MAX_PEOPLE, shares_of};
+use std::array;
 
 impl Balances {
-    // The balances of a book's people, by the lines that stand. Not `From`: they are worked out, and the book stays.
+    // The balances of a book's people, by the lines that stand. Not `From`: the balances are worked out.
     pub fn of(book: &Book) -> Balances
         ensures { Counted (held book.now) result }
     {
-        let mut cents = [0; 16];
+        let mut cents = [0; MAX_PEOPLE];
         for kept in book.lines() {
             if kept.stands {
                 count_line(&mut cents, kept.entry);
@@ -51,8 +52,6 @@ fn take_shares(cents: &mut [i64; 16], shares: &[u32; 16])
     requires { Bounded (2 * most) cents.old }
     ensures { cents.new ≡ less_shares shares.now cents.old }
 {
-    // by place: a proof knows nothing of what a loop over `cents.iter_mut().zip(shares)` writes
-    for (person, share) in shares.iter().enumerate() {
-        cents[person] -= i64::from(*share);
-    }
+    // a closure of `from_fn` knows that its index is below 16
+    *cents = array::from_fn(|person| cents[person] - i64::from(shares[person]));
 }

@@ -44,6 +44,7 @@ impl Crew<'_> {
     }
 
     // Fills both tables with the sum and the count of every set of the people; entries past those stay as they are.
+    // The tables are lent: the caller owns the memory.
     pub(crate) fn fill(&self, sums: &mut [i64], counts: &mut [u8])
         requires sums_room { 2 ^ length self.now.balances.now ≤ length sums.old }
         requires counts_room { 2 ^ length self.now.balances.now ≤ length counts.old }

@@ -10,29 +10,29 @@ use Rattle.groups.specs.Made.{Made}
 
 pub invariant_of-left-clause-small : goal.invariant_of-left-clause-small
 invariant_of-left-clause-small c =
-    let bs = c.of-crew.result.balances.now in
+    let bs = c.from-crew.result.balances.now in
     omega (arith, c.open_people.ensures, open_below (at_person bs) (length bs))
 
 pub invariant_of-left-clause-even : goal.invariant_of-left-clause-even
 invariant_of-left-clause-even c =
-    let bs = c.of-crew.result.balances.now in
-    rw c.open_people.ensures (open_sum (at_person bs) (length bs) ∙ c.of-crew.result.even)
+    let bs = c.from-crew.result.balances.now in
+    rw c.open_people.ensures (open_sum (at_person bs) (length bs) ∙ c.from-crew.result.even)
 
 pub invariant_of-left-clause-unsettled : goal.invariant_of-left-clause-unsettled
 invariant_of-left-clause-unsettled c =
-    let bs = c.of-crew.result.balances.now in
+    let bs = c.from-crew.result.balances.now in
     rw c.open_people.ensures (open_all (at_person bs) (length bs))
 
 pub fix-requires : goal.fix-requires
-fix-requires c = omega (arith, size_le (length c.of-crew.result.balances.now) c.open_people.result, c.in_ok-groups.ensures)
+fix-requires c = omega (arith, size_le (length c.from-crew.result.balances.now) c.open_people.result, c.in_ok-groups.ensures)
 
 pub returns : goal.returns
 returns c =
-    let is = c.of-crew.ensures in
-    let bs = c.of-crew.result.balances.now in
+    let is = c.from-crew.ensures in
+    let bs = c.from-crew.result.balances.now in
     let filled = c.fill.new in (
       c.in_ok-room.ensures,
-      of_crew c.args.balances.now bs is.all is.each
+      of_crew c.args.balances.now bs is.0 is.1
           (λ f n. Made f n c.args.sums.now filled.sums c.args.counts.now filled.counts (vec_items c.fix.new.groups))
           (record {
             written = c.fill.ensures;

@@ -1,6 +1,6 @@
 use Rattle.std.proofs.Common.{rules}
 use Rattle.balances.specs.View.{cents_of}
-use Rattle.settlement.proofs.Made.{made_each}
+use Rattle.book.proofs.Made.{made_each}
 use Rattle.settlement.proofs.sides.amounts.Goals as goal
 
 pub returns : goal.returns

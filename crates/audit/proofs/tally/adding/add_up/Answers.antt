@@ -14,12 +14,12 @@ loop-at-init c = record { read = c.new-tally.ensures _; rest = refl }
 pub add-requires-clause-few : goal.add-requires-clause-few
 add-requires-clause-few c =
     let n = people_of c.args.balances.now in
-    let said = rw c.people.ensures at c.in-Some.ensures in
+    let said = rw (c.people.ensures, c.in_ok-payment.ensures.ok_part) at c.decode.ensures in
     moved_room n c.loop-at.at c.args.payments.now _ c.loop-at-test.true _ _ _ c.loop-at.invariant.read said
 
 pub loop-at-preserved : goal.loop-at-preserved
 loop-at-preserved c =
-    let said = rw c.people.ensures at c.in-Some.ensures in
+    let said = rw (c.people.ensures, c.in_ok-payment.ensures.ok_part) at c.decode.ensures in
     let n = people_of c.args.balances.now in
     record {
       read = rw (c.add.ensures.paid, c.add.ensures.summed)

@@ -1,6 +1,6 @@
 -- What holds of the numbers of balances.
 use Rattle.groups.proofs.OfBalances.{crew_even, crew_few, crew_moderate}
-use Rattle.groups.proofs.crew.Crew.of.Goals as goal
+use Rattle.groups.proofs.crew.CrewFromRefBalances.from.Goals as goal
 
 pub invariant_of-result : goal.invariant_of-result
 invariant_of-result c =
