@@ -83,7 +83,7 @@ fn six_people(rt: HostRuntime) -> Result<(), Fail> {
     words(&rt, &book, &[&pay(0, 2, 5), &pay(3, 4, 3)], "1 is not quit")
 }
 
-// The verdict with these tables, or the number and place of the refusal.
+// The verdict with these tables, or the number and place of the refusal. The tables are lent: the caller owns the memory.
 fn told(
     book: &Book,
     payments: &[&[u8]],

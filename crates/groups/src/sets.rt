@@ -66,7 +66,7 @@ pub(crate) struct Subsets {
 }
 
 impl Subsets {
-    // All of them, the set itself first.
+    // All of them, the set itself first. Not `From`, which may ask nothing of the set.
     pub(crate) fn of(set: u32) -> Subsets
         requires { set < u32.MAX }
         ensures whole { result.set ≡ set }

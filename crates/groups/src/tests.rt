@@ -79,7 +79,8 @@ fn code(answer: Result<(), Short>) -> Result<(), (u8, usize)> {
     answer.map_err(|short| (short.number(), short.place()))
 }
 
-// Tables of 7 and of 9 are refused with this number and place for two people, and stay as they were.
+// Tables of 7 and of 9 are refused with this number and place for two people, and stay as they were. They are lent: the
+// caller owns the memory.
 fn refused(
     rt: &(impl Abort + AllocGlobal),
     sums: &mut [i64],
@@ -110,7 +111,7 @@ fn tables_too_short_by_one(rt: HostRuntime) -> Result<(), Fail> {
     refused(&rt, &mut [7; 3], &mut [9; 3], (11, 1))
 }
 
-// The entries of -3, 0 and 3 are written, and those past them are as they were.
+// The entries of -3, 0 and 3 are written, and those past them are as they were; of both tables, as they are lent.
 fn three_entered(rt: &impl Abort, sums: &[i64; 10], counts: &[u8; 9]) {
     assert_eq!(rt; *sums, [0, -3, 0, -3, 3, 0, 3, 0, 7, 7]);
     assert_eq!(rt; *counts, [0, 0, 0, 0, 0, 1, 0, 1, 9]);

@@ -58,8 +58,10 @@ fn audit_of(payments: String, book: Option<String>, more: Option<String>) -> Com
             book: None,
         };
     };
+    if is_option(&book) {
+        return Command::Unknown(book);
+    }
     match more {
-        _ if is_option(&book) => Command::Unknown(book),
         Some(word) => Command::Unknown(word),
         None => Command::Audit {
             payments,

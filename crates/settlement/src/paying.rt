@@ -48,7 +48,7 @@ fn pay_set(balances: &Balances, set: u32, payments: &mut Vec<Payment>)
     }
 }
 
-// The smallest person of the set whose amount is above 0, by `.get(..)`: a closure has no bound on what it indexes.
+// The smallest person of the set whose amount is above 0; by `.get(..)`, since nothing here says that people are at most 16.
 fn first_with(people: u8, set: u32, amounts: &[u64; 16]) -> Option<u8>
     ensures { result ≡ first_of people (has (is_in set) (amount_at amounts.now)) }
 {

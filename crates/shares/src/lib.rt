@@ -34,7 +34,8 @@ pub fn shares_of(amount: u32, weights: &[u16; 16]) -> [u32; 16]
     let mut shares = [0; MAX_PEOPLE];
     let mut part = 0;
     let mut before = 0;
-    // by place: a proof knows nothing of what a loop over `shares.iter_mut().zip(weights)` writes
+    // by place: a closure of `from_fn` would change `part` and `before`, and a proof knows nothing of what a loop over
+    // `shares.iter_mut().zip(weights)` writes
     for (person, weight) in weights.iter().enumerate() {
         part += u32::from(*weight);
         let up_to = falls_to(amount, part, all);
