@@ -54,9 +54,6 @@ abbrev pub first_faulty : ℕ → ℕ → List (List ℕ) → Option ℕ
 first_faulty n k [] = None
 first_faulty n k (bs ∷ bss) = pick (faulty n k bs) (Some k) (first_faulty n (suc k) bss)
 
--- what is read off the bytes where they are in order
-abbrev pub amount_at : List ℕ → ℕ → Option ℕ
-amount_at bs i = unless (out_of_range bs i) (eight_bytes bs i)
-
+-- what the bytes say where they are in order
 abbrev pub said : ℕ → ℕ → List ℕ → Option Payment
 said n k bs = unless (faulty n k bs) (payment_of bs)

@@ -1,5 +1,5 @@
 -- A bill's weights: how they are read from pairs of bytes, and what looking for a heavy one and for one above 0 says.
-use Rattle.std.proofs.Common.{◌≡◌, ℕ, zero, suc, ◌+◌, ◌-◌, ◌*◌, ◌/◌, ◌<◌, ◌≤◌, Bool, true, false, cond, not, eqb, ltb, List, [], ◌∷◌, ◌++◌, map, length, get_or, take, drop, drop-drop, replicate, All, Some, None, Ok, Option, Result, position, inl, inr, add-zero, sym, refl, ap, ◌∙◌, arith}
+use Rattle.std.proofs.Common.{◌≡◌, ℕ, zero, suc, ◌+◌, ◌-◌, ◌*◌, ◌/◌, ◌<◌, ◌≤◌, Bool, true, false, cond, not, eqb, List, [], ◌∷◌, ◌++◌, map, length, get_or, take, drop, drop-drop, replicate, All, Some, None, Option, position, inl, inr, add-zero, sym, refl, ap, ◌∙◌, arith}
 use Rattle.shares.specs.Bill.{total}
 use Rattle.shares.proofs.Totals.{total_next_le}
 use Rattle.std.proofs.lemmas.List.FromFn.{fill_by_all, length-map-range_with_len, get_or-map-range_with_len}
@@ -10,12 +10,8 @@ use Rattle.std.specs.Bool.{MatchBool}
 use Rattle.std.specs.List.{Any, range_with_len}
 use Rattle.std.specs.Option.{option_map}
 use Rattle.std.specs.Simd.{first_chunks}
-use Rattle.book.specs.Checks.{asked, bill_of, checked_bill, clear, first_at, payable, present, some_weight, too_heavy}
+use Rattle.book.specs.Checks.{bill_of, bill_unless, checked_bill, first_at, heavy, too_heavy}
 use Rattle.book.specs.Layout.{byte, two_bytes, four_bytes, weight_at, weights_of, weights_in}
-use Rattle.book.specs.declared.line.Entry.{Entry}
-use Rattle.book.specs.declared.line.Line.TheVariants.{Bill}
-use Rattle.book.specs.declared.refusal.Refusal.{Refusal}
-use Rattle.book.specs.declared.refusal.Refusal.TheVariants.{UnknownPerson, AmountOutOfRange, WeightTooLarge, NoWeight}
 
 total_none : (ws : List ℕ) → All (λ w. w ≡ 0) ws → total ws ≡ 0
 unfolding total
@@ -34,9 +30,9 @@ position_more : (p : ℕ → Bool) (x : ℕ) (xs : List ℕ) (b : Bool) → p x 
 position_more p x xs true e = rw e (grind (arith, nat_tests))
 position_more p x xs false e = rw e (grind (arith, nat_tests))
 
-position_zeros : (m : ℕ) → position (λ w. ltb 1000 w) (replicate m 0) ≡ None
+position_zeros : (m : ℕ) → position heavy (replicate m 0) ≡ None
 position_zeros zero = refl
-position_zeros (suc m) = position_more (λ w. ltb 1000 w) 0 (replicate m 0) false refl ∙ ap (option_map suc) (position_zeros m)
+position_zeros (suc m) = position_more heavy 0 (replicate m 0) false refl ∙ ap (option_map suc) (position_zeros m)
 
 one_on : (a : ℕ) (b : Bool) (o : Option ℕ) →
     cond b (Some (weight_at a)) (option_map (λ i. weight_at (a + 1 + i)) o) ≡ option_map (λ i. weight_at (a + i)) (cond b (Some 0) (option_map suc o))
@@ -47,38 +43,25 @@ one_on a false (Some i) = ap Some (omega arith)
 -- the first heavy weight among the bytes is that of the first person who has one
 heavy_from : (bs : List ℕ) (a n m : ℕ) →
     first_at (too_heavy bs) (map weight_at (range_with_len a n)) ≡
-    option_map (λ i. weight_at (a + i)) (position (λ w. ltb 1000 w) (map (λ i. two_bytes bs (weight_at i)) (range_with_len a n) ++ replicate m 0))
+    option_map (λ i. weight_at (a + i)) (position heavy (map (λ i. two_bytes bs (weight_at i)) (range_with_len a n) ++ replicate m 0))
 heavy_from bs a zero m = ap (option_map (λ i. weight_at (a + i))) (sym (position_zeros m))
 heavy_from bs a (suc n) m =
-    let heavy = too_heavy bs (weight_at a) in
+    let here = too_heavy bs (weight_at a) in
     let rest = map (λ i. two_bytes bs (weight_at i)) (range_with_len (a + 1) n) ++ replicate m 0 in
-    ap (cond heavy (Some (weight_at a))) (heavy_from bs (a + 1) n m)
-    ∙ one_on a heavy (position (λ w. ltb 1000 w) rest)
-    ∙ ap (option_map (λ i. weight_at (a + i))) (sym (position_more (λ w. ltb 1000 w) (two_bytes bs (weight_at a)) rest heavy refl))
+    ap (cond here (Some (weight_at a))) (heavy_from bs (a + 1) n m)
+    ∙ one_on a here (position heavy rest)
+    ∙ ap (option_map (λ i. weight_at (a + i))) (sym (position_more heavy (two_bytes bs (weight_at a)) rest here refl))
 
 from_zero : (o : Option ℕ) → option_map (λ i. weight_at (0 + i)) o ≡ option_map weight_at o
 from_zero None = refl
 from_zero (Some i) = ap Some (omega arith)
-
-module _ (n payer amount : ℕ) (ws : List ℕ) where
-  -- a bill with what was found of a heavy weight
-  abbrev told_by : Option ℕ → (ℕ → Refusal) → Result Entry Refusal
-  told_by heavy e =
-      asked (present n payer) (UnknownPerson 1)
-      (λ p.
-      asked (payable amount) (AmountOutOfRange 2) (λ a. clear heavy e (asked (some_weight ws) NoWeight (λ v. Ok (record { line = Bill p a; weights = v })))))
-
-  by_place : (o : Option ℕ) → told_by o (λ i. WeightTooLarge (weight_at i)) ≡ told_by (option_map weight_at o) WeightTooLarge
-  by_place None = refl
-  by_place (Some i) = refl
 
 -- a bill by the values that its bytes say
 pub bill_by_values : (n : ℕ) (bs : List ℕ) → checked_bill n (byte bs 1) (four_bytes bs 2) (weights_of n bs) ≡ bill_of n bs
 unfolding weights_of
 bill_by_values n bs =
     let ws = weights_of n bs in
-    by_place n (byte bs 1) (four_bytes bs 2) ws (position (λ w. ltb 1000 w) ws)
-    ∙ ap (λ o. told_by n (byte bs 1) (four_bytes bs 2) ws o WeightTooLarge) (sym (heavy_from bs 0 n (16 - n) ∙ from_zero (position (λ w. ltb 1000 w) ws)))
+    ap (λ at. bill_unless at n (byte bs 1) (four_bytes bs 2) ws) (sym (heavy_from bs 0 n (16 - n) ∙ from_zero (position heavy ws)))
 
 length_chunks : (c : ℕ) (xs : List ℕ) → length (first_chunks 2 c xs) ≡ c
 length_chunks zero xs = refl

@@ -1,5 +1,6 @@
 -- Each check of a line's bytes: it hands on its value or is answered by None, and a line is decoded by one after another.
 use Rattle.std.specs.Prelude.{ℕ, Bool, true, false, cond, ◌||◌, List, [], ◌∷◌, length, replicate, Some, None, Ok, Err, Option, Result, ◌==◌, nat_le, nat_lt, position}
+use Rattle.std.specs.Option.{option_map}
 use Rattle.shares.specs.Bill.{total}
 use Rattle.book.specs.Layout.{byte, two_bytes, four_bytes, kind_of, length_of, weight_at, weights_at, weights_of, entry_of}
 use Rattle.book.specs.declared.kind.Kind.{Kind}
@@ -19,28 +20,32 @@ abbrev pub first_at : (ℕ → Bool) → List ℕ → Option ℕ
 first_at p [] = None
 first_at p (i ∷ is) = cond (p i) (Some i) (first_at p is)
 
--- what is turned away at byte i: a person that is not among n, an amount of 0 or above 1,000,000,000, a weight above 1,000
+-- what is turned away: a person that is not among n, an amount of 0 or above 1,000,000,000, a weight above 1,000
+abbrev pub absent : ℕ → ℕ → Bool
+absent n person = nat_le n person
+
+abbrev pub beyond : ℕ → Bool
+beyond amount = amount == 0 || nat_lt 1000000000 amount
+
+abbrev pub heavy : ℕ → Bool
+heavy weight = nat_lt 1000 weight
+
+-- the same of what byte i begins
 abbrev pub stranger : ℕ → List ℕ → ℕ → Bool
-stranger n bs i = nat_le n (byte bs i)
+stranger n bs i = absent n (byte bs i)
 
 abbrev pub out_of_range : List ℕ → ℕ → Bool
-out_of_range bs i = four_bytes bs i == 0 || nat_lt 1000000000 (four_bytes bs i)
+out_of_range bs i = beyond (four_bytes bs i)
 
 abbrev pub too_heavy : List ℕ → ℕ → Bool
-too_heavy bs i = nat_lt 1000 (two_bytes bs i)
+too_heavy bs i = heavy (two_bytes bs i)
 
 -- a person that is among n, and an amount that is in range
 abbrev pub present : ℕ → ℕ → Option ℕ
-present n person = unless (nat_le n person) person
+present n person = unless (absent n person) person
 
 abbrev pub payable : ℕ → Option ℕ
-payable amount = unless (amount == 0 || nat_lt 1000000000 amount) amount
-
-abbrev pub person_at : ℕ → List ℕ → ℕ → Option ℕ
-person_at n bs i = present n (byte bs i)
-
-abbrev pub amount_at : List ℕ → ℕ → Option ℕ
-amount_at bs i = payable (four_bytes bs i)
+payable amount = unless (beyond amount) amount
 
 abbrev pub heavy_at : ℕ → List ℕ → Option ℕ
 heavy_at n bs = first_at (too_heavy bs) (weights_at n kind.Bill)
@@ -58,15 +63,16 @@ abbrev pub clear : {B E : Type 0} → Option ℕ → (ℕ → E) → Result B E 
 clear None e r = r
 clear (Some i) e r = Err (e i)
 
--- a bill and a payment of values that were read
-abbrev pub checked_bill : ℕ → ℕ → ℕ → List ℕ → Result Entry Refusal
-checked_bill n payer amount weights =
+-- a bill and a payment of values that were read; `at` is where the first heavy weight begins, if there is one
+abbrev pub bill_unless : Option ℕ → ℕ → ℕ → ℕ → List ℕ → Result Entry Refusal
+bill_unless at n payer amount weights =
     asked (present n payer) (UnknownPerson 1)
     (λ payer.
     asked (payable amount) (AmountOutOfRange 2)
-    (λ amount.
-    clear (position (λ w. nat_lt 1000 w) weights) (λ i. WeightTooLarge (weight_at i))
-    (asked (some_weight weights) NoWeight (λ ws. Ok (record { line = Bill payer amount; weights = ws })))))
+    (λ amount. clear at WeightTooLarge (asked (some_weight weights) NoWeight (λ ws. Ok (record { line = Bill payer amount; weights = ws })))))
+
+abbrev pub checked_bill : ℕ → ℕ → ℕ → List ℕ → Result Entry Refusal
+checked_bill n payer amount weights = bill_unless (option_map weight_at (position heavy weights)) n payer amount weights
 
 abbrev pub checked_payment : ℕ → ℕ → ℕ → ℕ → Result Entry Refusal
 checked_payment n from to amount =
@@ -78,13 +84,7 @@ checked_payment n from to amount =
     (λ amount. cond (from == to) (Err PaidToSelf) (Ok (record { line = Payment from to amount; weights = replicate 16 0 })))))
 
 abbrev pub bill_of : ℕ → List ℕ → Result Entry Refusal
-bill_of n bs =
-    asked (person_at n bs 1) (UnknownPerson 1)
-    (λ payer.
-    asked (amount_at bs 2) (AmountOutOfRange 2)
-    (λ amount.
-    clear (heavy_at n bs) WeightTooLarge
-    (asked (some_weight (weights_of n bs)) NoWeight (λ ws. Ok (record { line = Bill payer amount; weights = ws })))))
+bill_of n bs = bill_unless (heavy_at n bs) n (byte bs 1) (four_bytes bs 2) (weights_of n bs)
 
 abbrev pub payment_of : ℕ → List ℕ → Result Entry Refusal
 payment_of n bs = checked_payment n (byte bs 1) (byte bs 2) (four_bytes bs 3)

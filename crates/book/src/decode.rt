@@ -1,6 +1,6 @@
 // From a line's bytes to its entry: each check hands on its value or returns the refusal.
-ghost use Rattle.std.specs.Prelude.{◌≡◌, ◌≤◌, nat_lt, position};
-ghost use Rattle.book.specs.Checks.{present, payable, some_weight, checked_bill, checked_payment, decoded};
+ghost use Rattle.std.specs.Prelude.{◌≡◌, ◌≤◌, position};
+ghost use Rattle.book.specs.Checks.{heavy, present, payable, some_weight, checked_bill, checked_payment, decoded};
 ghost use Rattle.book.specs.Layout.{kind_of, weights_in};
 
 use crate::kind::Kind;
@@ -123,7 +123,7 @@ fn weights(pairs: &[[u8; 2]]) -> [u16; 16]
 
 // The first person whose weight is above 1,000, if there is one.
 fn heavy_weight(weights: &[u16; 16]) -> Option<usize>
-    ensures { result ≡ position (λ w. nat_lt 1000 w) weights.now }
+    ensures { result ≡ position heavy weights.now }
 {
     weights.iter().position(|&weight| weight > MAX_WEIGHT)
 }
