@@ -26,10 +26,10 @@ first_far_padded xs = with_zeros 0 xs
     with_zeros k (y ∷ ys) = ap (cond (far y) (Some k)) (with_zeros (suc k) ys)
 
 -- where none is out of range all are in range
-pub none_far : (xs : List ℤ) → position far xs ≡ None → all_near xs ≡ true
+pub none_far : (k : ℕ) (xs : List ℤ) → first_far k xs ≡ None → all_near xs ≡ true
 unfolding all_near
-none_far xs h = near_from 0 xs (first_far_position xs ∙ h)
-  where
-    near_from : (k : ℕ) (ys : List ℤ) → first_far k ys ≡ None → all_near ys ≡ true
-    near_from k [] e = refl
-    near_from k (y ∷ ys) e = let rest = near_from (suc k) ys in grind arith
+none_far k [] h = refl
+none_far k (x ∷ xs) h = let rest = none_far (suc k) xs in grind arith
+
+pub near_all : (xs : List ℤ) → position far xs ≡ None → all_near xs ≡ true
+near_all xs h = none_far 0 xs (first_far_position xs ∙ h)

@@ -1,14 +1,14 @@
 -- Numbers with zeros after them, for people who are not there.
-use Rattle.std.proofs.Common.{◌≡◌, ℕ, ◌≤◌, List, ◌++◌, ◌-◌, drop, length, replicate, nat_lt, cond, position, ℤ, pos, Ok, Err, Result, refl, ◌∙◌, arith}
+use Rattle.std.proofs.Common.{◌≡◌, ℕ, ◌≤◌, List, ◌++◌, ◌-◌, drop, length, replicate, nat_lt, cond, position, ℤ, pos, Ok, Err, Result, refl, sym, ap, ◌∙◌, arith}
 use Rattle.std.proofs.lemmas.List.{drop_at, get_or_past}
 use Rattle.std.proofs.lemmas.Bool.Decides.{nat_tests}
 use Rattle.std.proofs.lemmas.Grind.{common_steps}
-use Rattle.balances.specs.Faults.{first_far, padded}
+use Rattle.balances.specs.Faults.{padded}
 use Rattle.balances.specs.Range.{far}
 use Rattle.balances.specs.Signed.{at_person, span_z}
 use Rattle.balances.specs.declared.unbalanced.Unbalanced.{Unbalanced}
 use Rattle.balances.specs.declared.unbalanced.Unbalanced.TheVariants.{TooMany}
-use Rattle.balances.proofs.FirstFar.{first_far_padded, first_far_position, none_far}
+use Rattle.balances.proofs.FirstFar.{first_far_padded, first_far_position, near_all}
 use Rattle.balances.proofs.SpansZ.{span_z_pad, span_z_same}
 
 pub zero_at : (m i : ℕ) → at_person (replicate m (pos 0)) i ≡ pos 0
@@ -33,11 +33,11 @@ module _ (xs all : List ℤ) (from : ◌≡◌ {A = Result (List ℤ) Unbalanced
   same = grind (arith, nat_tests)
 
   -- which have the first number out of range and the sum that these have
-  pub same_first : first_far 0 xs ≡ position far all
-  same_first = rw (same, ← first_far_position, first_far_padded)
+  pub same_first : position far all ≡ position far xs
+  same_first = ap (position far) same ∙ sym (first_far_position (padded xs)) ∙ first_far_padded xs ∙ first_far_position xs
 
-  pub same_sum : span_z (at_person xs) (length xs) ≡ span_z (at_person all) 16
-  same_sum = rw (same, span_padded xs few)
+  pub same_sum : span_z (at_person all) 16 ≡ span_z (at_person xs) (length xs)
+  same_sum = rw same (span_padded xs few)
 
   -- what each person has, and that the others have 0
   pub same_at : (i : ℕ) → at_person all i ≡ at_person xs i
@@ -47,4 +47,4 @@ module _ (xs all : List ℤ) (from : ◌≡◌ {A = Result (List ℤ) Unbalanced
   same_absent = rw same (drop_at xs _ (length xs) refl)
 
 -- what `from_cents` needs of the numbers that it tests
-pub ruleset tested = (few, same_first, same_sum, same_at, same_absent, none_far)
+pub ruleset tested = (few, first_far_position, same_first, same_sum, same_at, same_absent, near_all)

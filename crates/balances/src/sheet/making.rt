@@ -1,5 +1,5 @@
 // Balances from numbers that come from elsewhere.
-ghost use Rattle.std.specs.Prelude.{◌≡◌, true, cond, nat_lt, length, position, Ok, Err};
+ghost use Rattle.std.specs.Prelude.{◌≡◌, ◌≤◌, true, cond, nat_lt, length, position, Ok, Err};
 ghost use Rattle.balances.specs.Faults.{Taken, padded};
 ghost use Rattle.balances.specs.Range.{all_near, far};
 ghost use Rattle.balances.specs.Signed.{at_person, span_z};
@@ -19,12 +19,12 @@ impl Balances {
         ensures { Taken cents.now result }
     {
         let all = padded(cents)?;
-        if let Some(person) = first_far(&all) {
+        if let Some(person) = first_far(cents) {
             return Err(Unbalanced::OutOfRange {
                 person: person as u8,
             });
         }
-        if sum(&all) != 0 {
+        if sum(cents) != 0 {
             return Err(Unbalanced::NotEven);
         }
         Ok(Balances {
@@ -47,7 +47,7 @@ fn padded(cents: &[i64]) -> Result<[i64; 16], Unbalanced>
 }
 
 // The first person whose number is out of range.
-fn first_far(cents: &[i64; 16]) -> Option<usize>
+fn first_far(cents: &[i64]) -> Option<usize>
     ensures { result ≡ position far cents.now }
 {
     cents
@@ -56,9 +56,10 @@ fn first_far(cents: &[i64; 16]) -> Option<usize>
 }
 
 // All numbers together, by a loop: the library's sum of signed numbers has no bound that a proof could use.
-fn sum(cents: &[i64; 16]) -> i64
-    requires { all_near cents.now ≡ true }
-    ensures { result ≡ span_z (at_person cents.now) 16 }
+fn sum(cents: &[i64]) -> i64
+    requires few { length cents.now ≤ 16 }
+    requires near { all_near cents.now ≡ true }
+    ensures { result ≡ span_z (at_person cents.now) (length cents.now) }
 {
     let mut sum = 0;
     for number in cents {

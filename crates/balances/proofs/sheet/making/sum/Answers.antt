@@ -11,11 +11,11 @@ unfolding span_z
 loop-number-init c = (refl, omega arith)
 
 pub overflow_add-sum : goal.overflow_add-sum
-overflow_add-sum c = let near = near_each c.args.cents.now c.loop-number.number-index c.requires in omega (arith, ints)
+overflow_add-sum c = let near = near_each c.args.cents.now c.loop-number.number-index c.requires.near in omega (arith, ints)
 
 pub loop-number-preserved : goal.loop-number-preserved
 loop-number-preserved c =
     let xs = c.args.cents.now in
     let i = c.loop-number.number-index in
-    let near = near_each xs i c.requires in
+    let near = near_each xs i c.requires.near in
     (omega (arith, ints, span_z_more (at_person xs) i, ap (span_z (at_person xs)) (add-one i)), omega (arith, ints))
