@@ -3,7 +3,6 @@ ghost use Rattle.std.specs.Prelude.{◌≡◌, Some};
 ghost use Rattle.balances.specs.Signed.{credit, debt};
 ghost use Rattle.text.specs.Sides.{side, side_said};
 
-use std::cmp::Ordering;
 use std::fmt;
 
 // So many cents, above 0.
@@ -19,10 +18,10 @@ impl Side {
         ensures { result ≡ side person (debt balance) (credit balance) }
     {
         let cents = balance.unsigned_abs();
-        match balance.cmp(&0) {
-            Ordering::Less => Some(Side::Owes { person, cents }),
-            Ordering::Equal => None,
-            Ordering::Greater => Some(Side::IsOwed { person, cents }),
+        match balance {
+            ..0 => Some(Side::Owes { person, cents }),
+            0 => None,
+            1.. => Some(Side::IsOwed { person, cents }),
         }
     }
 }
