@@ -17,7 +17,7 @@ taken_push [] e k = grind arith
 taken_push (x ∷ es) e k = let ih = taken_push es e k in grind arith
 
 -- a plain line is there
-plain_there : (es : List Entry) (k : ℕ) → is_plain (slice_get es k) ≡ true → k < length es
+pub plain_there : (es : List Entry) (k : ℕ) → is_plain (slice_get es k) ≡ true → k < length es
 plain_there [] k h = grind arith
 plain_there (e ∷ es) zero h = omega arith
 plain_there (e ∷ es) (suc k) h = omega (arith, plain_there es k h)
@@ -27,7 +27,7 @@ pub plain_stands : (es : List Entry) (k : ℕ) (e : Entry) → slice_get es k �
 plain_stands es k e is = let there = lt-ltb k (length es) (slice_get_within es k e is) in rw (is, there) (grind arith)
 
 -- the line that a line takes back, where it may follow, is there
-within : (n : ℕ) (es : List Entry) (ws : List ℕ) (l : Line) → follows n es ws l ≡ true → Within l (length es)
+pub within : (n : ℕ) (es : List Entry) (ws : List ℕ) (l : Line) → follows n es ws l ≡ true → Within l (length es)
 within n es ws (Bill payer amount) f = tt
 within n es ws (Payment from to amount) f = tt
 within n es ws (TakeBack j) f = plain_there es j (and_parts (is_plain (slice_get es j)) (not (taken es j)) f).0

@@ -15,7 +15,7 @@ same_within (suc k) (suc m) (n ∷ bs) h g =
     ap (λ ps. piece n bs ∷ ps) (same_within k m (drop n bs) (omega (arith, length-drop n bs)) (omega (arith, length-drop n bs)))
 
 -- a bound of the input's length or more changes nothing
-within_enough : (k : ℕ) (bs : List ℕ) → length bs ≤ k → pieces_within k bs ≡ pieces bs
+pub within_enough : (k : ℕ) (bs : List ℕ) → length bs ≤ k → pieces_within k bs ≡ pieces bs
 unfolding pieces
 within_enough k bs h = same_within k (length bs) bs h (omega arith)
 
@@ -24,7 +24,7 @@ pub pieces_none : pieces [] ≡ []
 unfolding pieces
 pieces_none = refl
 
-pieces_more : (n : ℕ) (bs : List ℕ) → pieces (n ∷ bs) ≡ piece n bs ∷ pieces (drop n bs)
+pub pieces_more : (n : ℕ) (bs : List ℕ) → pieces (n ∷ bs) ≡ piece n bs ∷ pieces (drop n bs)
 unfolding pieces
 pieces_more n bs = ap (λ ps. piece n bs ∷ ps) (within_enough (length bs) (drop n bs) (omega (arith, length-drop n bs)))
 

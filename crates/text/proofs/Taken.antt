@@ -59,7 +59,7 @@ unfolding book_after
 book_people h [] = refl
 book_people h (p ∷ ps) = book_people (after h p) ps ∙ after_people h p
 
-answered_lines : (h : Held) (ps : List Piece) → book_lines (book_after h ps) ≡ book_lines h ++ answered h.people ps (replies h ps)
+pub answered_lines : (h : Held) (ps : List Piece) → book_lines (book_after h ps) ≡ book_lines h ++ answered h.people ps (replies h ps)
 unfolding book_after answered replies
 answered_lines h [] = sym (append-nil (book_lines h))
 answered_lines h (p ∷ ps) = rw (answered_lines (after h p) ps, after_lines, after_people) (append_assoc (book_lines h) _ _)
